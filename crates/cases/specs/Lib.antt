@@ -1,0 +1,3 @@
+pub mod Case
+pub mod Block
+pub mod Instruction

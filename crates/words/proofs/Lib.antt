@@ -1,0 +1,3 @@
+pub mod Bools
+pub mod Sets
+pub mod First
