@@ -1,0 +1,4 @@
+pub mod Model
+pub mod Replay
+pub mod Outcome
+pub mod Listing

@@ -1,0 +1,1 @@
+// What a model of a machine can do, whatever the machine: definitions and laws, no code.
