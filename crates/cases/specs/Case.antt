@@ -13,9 +13,13 @@ use Rattle.cases.specs.declared.Case.{Case}
 abbrev pub countOf : Case → ℕ → ℕ
 countOf c p = getD (c .counts) p 0
 
+-- The instruction in slot n, the empty one past the last.
+abbrev pub slotIn : Case → ℕ → Instr
+slotIn c n = getD (c .code) n (record { instr = Empty }) .instr
+
 -- Instruction i of processor p.
 abbrev pub instrAt : Case → ℕ → ℕ → Instr
-instrAt c p i = getD (c .code) (12 * p + i) (record { instr = Empty }) .instr
+instrAt c p i = slotIn c (12 * p + i)
 
 -- What register k of processor p starts with: its preset where bit k of the mask is set.
 abbrev pub presetOf : Case → ℕ → ℕ → Option ℕ
