@@ -1,8 +1,8 @@
 -- A buffer as records: by their places, of a whole and of its parts, and in a row. Assumes nothing.
-use mathlib.Core.Path.{_≡_, refl, sym, ap, _∙_, subst}
+use mathlib.Core.Path.{_≡_, refl, sym, ap, _∙_}
 use mathlib.Core.Logic.{⊎-elim}
 use mathlib.Core.Bool.{true}
-use mathlib.Core.List.{List, [], _∷_, _++_, append-assoc, List·Memᴰ, List·Memᴰ·head, List·Memᴰ·tail, List·Memᴰ·not-nil, List·Memᴰ·cases-cons}
+use mathlib.Core.List.{List, _∷_, _++_, List·Memᴰ·head, List·Memᴰ·tail, List·Memᴰ·not-nil, List·Memᴰ·cases-cons, Memᴰ·cast}
 use Prim.Native.Nat.{ℕ, zero, suc, _+_, _-_, _*_, _≤_, _<_, suc-le-suc}
 use native.Mathlib.Nat.{zero-add, suc-add, zero-sub, suc-sub-suc, sub-zero, zero-lt-suc, le-of-suc-le-suc}
 use native.Mathlib.Omega.{arith}
@@ -30,7 +30,7 @@ pub among-at : (n : ℕ) (bs : List ℕ) (k : ℕ) → k < n → Among bs n (rec
 unfolding recordsIn
 among-at zero bs k h = absurd (omega arith)
 among-at (suc n) bs zero h = List·Memᴰ·head refl
-among-at (suc n) bs (suc k) h = List·Memᴰ·tail (subst (λ (r : List ℕ). List·Memᴰ r (recordsIn n (drop 96 bs))) (next bs k) (among-at n (drop 96 bs) k (le-of-suc-le-suc h)))
+among-at (suc n) bs (suc k) h = List·Memᴰ·tail (Memᴰ·cast (sym (next bs k)) (among-at n (drop 96 bs) k (le-of-suc-le-suc h)))
 
 pub place-of : (n : ℕ) (bs r : List ℕ) → Among bs n r → (k : ℕ) × (k < n) × (r ≡ recordAt bs k)
 unfolding recordsIn
@@ -46,7 +46,7 @@ ordered n bs a i zero h l = absurd (omega arith)
 ordered zero bs a i (suc j) h l = absurd (omega arith)
 ordered (suc n) bs a zero (suc j) h l =
     first-below (take 96 bs) (recordsIn n (drop 96 bs)) a (recordAt bs (suc j))
-    (subst (λ (r : List ℕ). List·Memᴰ r (recordsIn n (drop 96 bs))) (next bs j) (among-at n (drop 96 bs) j (le-of-suc-le-suc l)))
+    (Memᴰ·cast (sym (next bs j)) (among-at n (drop 96 bs) j (le-of-suc-le-suc l)))
 ordered (suc n) bs a (suc i) (suc j) h l =
     rw (← next bs i, ← next bs j) (ordered n (drop 96 bs) (rest-ascends (take 96 bs) (recordsIn n (drop 96 bs)) a) i j (le-of-suc-le-suc h) (le-of-suc-le-suc l))
 

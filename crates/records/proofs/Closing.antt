@@ -1,5 +1,5 @@
 -- From a buffer that holds the records of P to the list of P. Assumes nothing.
-use mathlib.Core.Path.{_≡_, refl, sym, ap, _∙_, subst}
+use mathlib.Core.Path.{_≡_, sym, ap, _∙_, subst}
 use mathlib.Core.Logic.{_↔_}
 use mathlib.Core.Bool.{Bool, true, false, false≢true}
 use mathlib.Core.List.{List, _++_, List·Memᴰ·not-nil}
@@ -7,7 +7,7 @@ use Prim.Native.Nat.{ℕ, _*_, _-_, _/_, _≤_, _<_}
 use native.Mathlib.Omega.{arith}
 use lib.ListN.{length, replicate, length-replicate}
 use Rattle.words.specs.Small.{concatMap}
-use Rattle.runs.specs.Listing.{RecordsOf, Listed, AcceptedOf, Refused, IsListOf}
+use Rattle.runs.specs.Listing.{RecordsOf, Listed, Refused, IsListOf}
 use Rattle.records.specs.Buffer.{recordsIn, Among, Held}
 use Rattle.records.specs.Growth.{MoreThan, Joined, Explored}
 use Rattle.records.proofs.Ascending.{no-longer}
@@ -22,7 +22,8 @@ longer-than {rs = rs} right x =
 
 module _ {P : List ℕ → Type 0} {C : Type 0} {size : ℕ} {a : Listed} {bytes : List ℕ} where
   -- the buffer holds the records of P
-  pub listed : {n : ℕ} → length bytes ≡ size → Held bytes n → ((r : List ℕ) → Among bytes n r ↔ P r) → a .code ≡ 0 → a .count ≡ n → (a .cut ≡ true) ↔ C → IsListOf P C size a bytes
+  pub listed : {n : ℕ} → length bytes ≡ size → Held bytes n → ((r : List ℕ) → Among bytes n r ↔ P r) →
+      a .code ≡ 0 → a .count ≡ n → (a .cut ≡ true) ↔ C → IsListOf P C size a bytes
   listed {n} len held members code count cut =
       record {
         records = recordsIn n bytes;
@@ -32,7 +33,9 @@ module _ {P : List ℕ → Type 0} {C : Type 0} {size : ℕ} {a : Listed} {bytes
       }
     where
       row : bytes ≡ concatMap (λ r. r) (recordsIn n bytes) ++ replicate (size - 96 * length (recordsIn n bytes)) 0
-      row = held-bytes held ∙ ap (λ (k : ℕ). concatMap (λ r. r) (recordsIn n bytes) ++ replicate k 0) (let e : length bytes - 96 * n ≡ size - 96 * length (recordsIn n bytes) = omega (arith, records-length n bytes) in e)
+      row =
+          let rest : length bytes - 96 * n ≡ size - 96 * length (recordsIn n bytes) = omega (arith, records-length n bytes) in
+          held-bytes held ∙ ap (λ (k : ℕ). concatMap (λ r. r) (recordsIn n bytes) ++ replicate k 0) rest
 
   -- more records of P than fit, and the buffer cleared
   pub unlisted : {rs : List (List ℕ)} → RecordsOf P rs → MoreThan (size / 96) P → Refused 11 size a bytes → IsListOf P C size a bytes
@@ -41,7 +44,8 @@ module _ {P : List ℕ → Type 0} {C : Type 0} {size : ℕ} {a : Listed} {bytes
       record { records = rs; right = right; fits = λ h. absurd (omega arith); full = λ _. refused }
 
 -- a search over a cleared buffer
-module _ {P : List ℕ → Type 0} {C : Type 0} (size : ℕ) {zeros : List ℕ} (cleared : zeros ≡ replicate size 0) {bytes : List ℕ} {n : ℕ} {cut full : Bool} (x : Explored P C zeros 0 false bytes n cut full) where
+module _ {P : List ℕ → Type 0} {C : Type 0} (size : ℕ) {zeros : List ℕ} (cleared : zeros ≡ replicate size 0)
+    {bytes : List ℕ} {n : ℕ} {cut full : Bool} (x : Explored P C zeros 0 false bytes n cut full) where
   length-zeros : length zeros ≡ size
   length-zeros = ap length cleared ∙ length-replicate size 0
 

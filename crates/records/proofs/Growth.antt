@@ -5,13 +5,16 @@ use mathlib.Core.Bool.{Bool, true, false, true≢false, false≢true}
 use mathlib.Core.List.{List}
 use Prim.Native.Nat.{ℕ, _/_}
 use lib.ListN.{length}
-use Rattle.records.specs.Buffer.{Among, Held}
-use Rattle.records.specs.Growth.{MoreThan, Filled, Joined, Grown, Marked, Explored}
+use Rattle.records.specs.Buffer.{Held}
+use Rattle.records.specs.Growth.{MoreThan, Filled, Grown, Explored}
 
 -- one of two
 
 pub iff-trans : {A B C : Type 0} → A ↔ B → B ↔ C → A ↔ C
 iff-trans f g = (λ a. g .0 (f .0 a), λ c. f .1 (g .1 c))
+
+pub iff-sym : {A B : Type 0} → A ↔ B → B ↔ A
+iff-sym f = (f .1, f .0)
 
 pub in-second : {A B C : Type 0} → (B → C) → A ⊎ B → A ⊎ C
 in-second f = ⊎-elim inl (λ b. inr (f b))
@@ -41,7 +44,8 @@ module _ {P : List ℕ → Type 0} where
   pub filled-none : {bs : List ℕ} {n : ℕ} → Held bs n → Filled P bs bs n false
   filled-none h = record { size = refl; held = λ _. h; lacks = λ e. absurd (false≢true e) }
 
-  pub filled-of : {Q : List ℕ → Type 0} {before after : List ℕ} {m : ℕ} {full : Bool} → ((r : List ℕ) → P r → Q r) → Filled P before after m full → Filled Q before after m full
+  pub filled-of : {Q : List ℕ → Type 0} {before after : List ℕ} {m : ℕ} {full : Bool} →
+      ((r : List ℕ) → P r → Q r) → Filled P before after m full → Filled Q before after m full
   filled-of f g = record { size = g .size; held = g .held; lacks = λ e. more-of f (g .lacks e) }
 
   -- the second of two additions speaks of the first one's buffer
@@ -63,7 +67,8 @@ module _ {P : List ℕ → Type 0} {before : List ℕ} {n : ℕ} where
     grown-short e f g = record { filled = filled-of (λ r. in-second (f r)) (g .filled); members = λ z. absurd (true≢false (sym e ∙ z)) }
 
     -- P, for which there was room, and then Q
-    pub grown-then : {Q : List ℕ → Type 0} {after : List ℕ} {k : ℕ} {full′ : Bool} → full ≡ false → Grown P before n mid m full → Grown Q mid m after k full′ → Grown (λ r. P r ⊎ Q r) before n after k full′
+    pub grown-then : {Q : List ℕ → Type 0} {after : List ℕ} {k : ℕ} {full′ : Bool} → full ≡ false →
+        Grown P before n mid m full → Grown Q mid m after k full′ → Grown (λ r. P r ⊎ Q r) before n after k full′
     grown-then z g h =
         record {
           filled = filled-then (g .filled .size) (filled-of (λ r. regroup (g .members z r) .0) (h .filled));
@@ -85,11 +90,14 @@ module _ {P : List ℕ → Type 0} {C : Type 0} {before : List ℕ} {n : ℕ} {c
   explored-added f g = record { grown = g; marked = λ _. none-second f }
 
   module _ {mid : List ℕ} {m : ℕ} {cut₁ full : Bool} where
-    pub explored-same : {Q : List ℕ → Type 0} {D : Type 0} → ((r : List ℕ) → P r ↔ Q r) → C ↔ D → Explored P C before n cut mid m cut₁ full → Explored Q D before n cut mid m cut₁ full
+    pub explored-same : {Q : List ℕ → Type 0} {D : Type 0} → ((r : List ℕ) → P r ↔ Q r) → C ↔ D →
+        Explored P C before n cut mid m cut₁ full → Explored Q D before n cut mid m cut₁ full
     explored-same e d x = record { grown = grown-same e (x .grown); marked = λ z. iff-trans (x .marked z) (same-second d) }
 
-    pub explored-short : {Q : List ℕ → Type 0} {D : Type 0} → full ≡ true → ((r : List ℕ) → P r → Q r) → Explored P C before n cut mid m cut₁ full → Explored Q D before n cut mid m cut₁ full
+    pub explored-short : {Q : List ℕ → Type 0} {D : Type 0} → full ≡ true → ((r : List ℕ) → P r → Q r) →
+        Explored P C before n cut mid m cut₁ full → Explored Q D before n cut mid m cut₁ full
     explored-short e f x = record { grown = grown-short e f (x .grown); marked = λ z. absurd (true≢false (sym e ∙ z)) }
 
-    pub explored-then : {Q : List ℕ → Type 0} {D : Type 0} {after : List ℕ} {k : ℕ} {cut₂ full′ : Bool} → full ≡ false → Explored P C before n cut mid m cut₁ full → Explored Q D mid m cut₁ after k cut₂ full′ → Explored (λ r. P r ⊎ Q r) (C ⊎ D) before n cut after k cut₂ full′
+    pub explored-then : {Q : List ℕ → Type 0} {D : Type 0} {after : List ℕ} {k : ℕ} {cut₂ full′ : Bool} → full ≡ false →
+        Explored P C before n cut mid m cut₁ full → Explored Q D mid m cut₁ after k cut₂ full′ → Explored (λ r. P r ⊎ Q r) (C ⊎ D) before n cut after k cut₂ full′
     explored-then z x y = record { grown = grown-then z (x .grown) (y .grown); marked = λ v. iff-trans (y .marked v) (regroup (x .marked z)) }

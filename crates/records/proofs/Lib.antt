@@ -6,3 +6,4 @@ pub mod Moving
 pub mod Putting
 pub mod Growth
 pub mod Closing
+pub mod Exact

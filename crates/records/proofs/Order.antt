@@ -1,7 +1,7 @@
 -- Byte order: irreflexive, transitive, total, and decided by the first byte that differs. Assumes nothing.
 use mathlib.Core.Path.{_≡_, refl, sym, _∙_}
 use mathlib.Core.Logic.{_⊎_, inl, inr}
-use mathlib.Core.Bool.{Bool, true, false, _&&_, _||_, false≢true}
+use mathlib.Core.Bool.{Bool, true, false, _&&_, _||_, true≢false, false≢true}
 use mathlib.Core.List.{List, [], _∷_}
 use Prim.Native.Nat.{ℕ, zero, suc, _<_, suc-le-suc}
 use native.Mathlib.Nat.{zero-lt-suc, le-of-suc-le-suc}
@@ -12,9 +12,12 @@ use borrow.Author.Tests.{ltb-true, ltb-false, lt-ltb, le-ltb, eqb-true, eq-eqb, 
 use Rattle.words.proofs.Bools.{or-cases, or-left, or-right, or-none, and-both, and-make}
 use Rattle.runs.specs.Listing.{below}
 
-pub below-irrefl : (a : List ℕ) → below a a ≡ false
-below-irrefl [] = refl
-below-irrefl (x ∷ xs) = rw (le-ltb x x (omega arith), eq-eqb x x refl) (below-irrefl xs)
+pub below-self : (a : List ℕ) → below a a ≡ false
+below-self [] = refl
+below-self (x ∷ xs) = rw (le-ltb x x (omega arith), eq-eqb x x refl) (below-self xs)
+
+pub below-irrefl : (a : List ℕ) → below a a ≡ true → ⊥
+below-irrefl a h = true≢false (sym h ∙ below-self a)
 
 pub below-trans : (a b c : List ℕ) → below a b ≡ true → below b c ≡ true → below a c ≡ true
 below-trans [] [] c h k = absurd (false≢true h)
@@ -27,7 +30,9 @@ below-trans (x ∷ xs) (y ∷ ys) (z ∷ zs) h k = step (below-trans xs ys zs) (
     less : x < z → below (x ∷ xs) (z ∷ zs) ≡ true
     less g = or-left (ltb x z) _ (lt-ltb x z g)
 
-    step : (below xs ys ≡ true → below ys zs ≡ true → below xs zs ≡ true) → (ltb x y ≡ true) ⊎ ((eqb x y && below xs ys) ≡ true) → (ltb y z ≡ true) ⊎ ((eqb y z && below ys zs) ≡ true) → below (x ∷ xs) (z ∷ zs) ≡ true
+    step : (below xs ys ≡ true → below ys zs ≡ true → below xs zs ≡ true) →
+        (ltb x y ≡ true) ⊎ ((eqb x y && below xs ys) ≡ true) →
+        (ltb y z ≡ true) ⊎ ((eqb y z && below ys zs) ≡ true) → below (x ∷ xs) (z ∷ zs) ≡ true
     step more (inl p) (inl q) = less (omega (arith, ltb-true x y p, ltb-true y z q))
     step more (inl p) (inr q) = less (omega (arith, ltb-true x y p, eqb-true y z (and-both (eqb y z) _ q .0)))
     step more (inr p) (inl q) = less (omega (arith, ltb-true y z q, eqb-true x y (and-both (eqb x y) _ p .0)))
@@ -51,7 +56,8 @@ below-total (x ∷ xs) (y ∷ ys) h k =
     right a b h k = rw h at k
 
 -- at i is the first byte that differs
-pub below-at : (i : ℕ) (a b : List ℕ) → ((k : ℕ) → k < i → getD a k 0 ≡ getD b k 0) → i < length a → i < length b → (getD a i 0 ≡ getD b i 0 → ⊥) → ltb (getD a i 0) (getD b i 0) ≡ below a b
+pub below-at : (i : ℕ) (a b : List ℕ) → ((k : ℕ) → k < i → getD a k 0 ≡ getD b k 0) → i < length a → i < length b →
+    (getD a i 0 ≡ getD b i 0 → ⊥) → ltb (getD a i 0) (getD b i 0) ≡ below a b
 below-at i [] b e l m d = absurd (omega arith)
 below-at i (x ∷ xs) [] e l m d = absurd (omega arith)
 below-at zero (x ∷ xs) (y ∷ ys) e l m d = rw (ne-eqb x y d) (sym (or-no (ltb x y)))

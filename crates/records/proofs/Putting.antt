@@ -1,7 +1,7 @@
 -- A record put at its place among the records of a buffer: the three answers of an insertion. Assumes nothing.
 use mathlib.Core.Path.{_≡_, refl, sym, ap, _∙_, subst}
-use mathlib.Core.Logic.{_⊎_, inl, inr, ⊎-elim, _↔_}
-use mathlib.Core.Bool.{Bool, true, false, true≢false, false≢true}
+use mathlib.Core.Logic.{_⊎_, inl, ⊎-elim, _↔_}
+use mathlib.Core.Bool.{true, false, true≢false, false≢true}
 use mathlib.Core.List.{List, [], _∷_, _++_, append-nil, List·Memᴰ, Memᴰ·cast}
 use Prim.Native.Nat.{ℕ, suc, _+_, _-_, _*_, _/_, _≤_, _<_}
 use native.Mathlib.Omega.{arith}
@@ -15,7 +15,18 @@ use Rattle.records.specs.Growth.{Joined}
 use Rattle.records.specs.Insertion.{Place, Insertion}
 use Rattle.records.proofs.Order.{below-total}
 use Rattle.records.proofs.Ascending.{members-put, ascending-put}
-use Rattle.records.proofs.Buffer.{records-length, record-drop, among-at, place-of, records-add, records-split, records-cons, records-front, records-take, drop-zeros}
+use Rattle.records.proofs.Buffer.{
+  records-length,
+  record-drop,
+  among-at,
+  place-of,
+  records-add,
+  records-split,
+  records-cons,
+  records-front,
+  records-take,
+  drop-zeros,
+}
 
 -- the tail `&mut out[a..]`, lent and given back
 
@@ -38,7 +49,8 @@ putAt bs r n p = take (96 * p) bs ++ shifted r (96 * (n - p)) (drop (96 * p) bs)
 
 module _ (bs r : List ℕ) (n p : ℕ) where
   -- what is written to the tail, said of the whole
-  pub put-back : (last : List ℕ) → last ≡ shifted r (96 * (n - p)) (take (length bs - 96 * p) (drop (96 * p) bs)) → putMid (96 * p) (length bs - 96 * p) bs last ≡ putAt bs r n p
+  pub put-back : (last : List ℕ) → last ≡ shifted r (96 * (n - p)) (take (length bs - 96 * p) (drop (96 * p) bs)) →
+      putMid (96 * p) (length bs - 96 * p) bs last ≡ putAt bs r n p
   put-back last e =
       tail-back (96 * p) bs last
       ∙ ap (λ (ys : List ℕ). take (96 * p) bs ++ ys) (e ∙ ap (λ (tail : List ℕ). shifted r (96 * (n - p)) tail) (tail-lent (96 * p) bs))
@@ -124,7 +136,7 @@ module _ {bs r : List ℕ} {n p : ℕ} (held : Held bs n) (w : Place bs n r p) w
     low-below x m = let k = place-of p bs x m in rw (k .2) (w .under (k .0) (k .1))
 
     above-at : (y : List ℕ) (k : ℕ) → k < n - p → y ≡ recordAt (drop (96 * p) bs) k → below r y ≡ true
-    above-at y k l e = ⊎-elim (λ h. h) (λ h. absurd (new (rw (← below-total y r not-below h, at-k) (among-at n bs (p + k) inside)))) (decide (below r y))
+    above-at y k l e = ⊎-elim (λ h. h) (λ h. absurd (new (Memᴰ·cast (sym (below-total y r not-below h) ∙ at-k) (among-at n bs (p + k) inside)))) (decide (below r y))
       where
         inside : p + k < n
         inside = omega arith

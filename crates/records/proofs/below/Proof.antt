@@ -7,7 +7,7 @@ use borrow.Author.Count.{below-more}
 use lib.ListN.{length, getD}
 use lib.Seq.{ext-getD}
 use Rattle.runs.specs.Listing.{below}
-use Rattle.records.proofs.Order.{below-irrefl, below-at}
+use Rattle.records.proofs.Order.{below-self, below-at}
 use Rattle.records.proofs.below.Statement.{statement}
 use Rattle.records.proofs.below.Tie as tie
 
@@ -56,7 +56,7 @@ returns-2 c =
     let a = turn .before .args .a .now in
     let b = turn .before .args .b .now in
     let same : a ≡ b = ext-getD 0 a b (turn .before .pre) (λ k l. turn .loop .inv .1 k (omega arith)) in
-    sym (ap (λ (x : List ℕ). below a x) (sym same) ∙ below-irrefl a)
+    sym (ap (λ (x : List ℕ). below a x) (sym same) ∙ below-self a)
 
 pub below-spec : {M : Type 1} → statement M
 below-spec =

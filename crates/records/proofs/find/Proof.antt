@@ -1,25 +1,25 @@
 -- The records before `low` are below r, and those from `high` on are not.
 use mathlib.Core.Path.{_≡_, sym, ap, _∙_}
-use mathlib.Core.Bool.{true, false}
-use mathlib.Core.List.{List}
-use Prim.Native.Nat.{ℕ, _+_, _*_, _/_, _≤_, _<_, _-_}
+use Prim.Native.Nat.{ℕ, _+_, _*_, _/_, _≤_, _-_}
 use native.Mathlib.Omega.{arith}
-use lib.ListN.{length, take, drop}
+use lib.ListN.{take, drop}
 use Rattle.runs.specs.Listing.{below}
 use Rattle.records.specs.Buffer.{recordAt}
-use Rattle.records.proofs.Places.{under-to, over-from}
+use Rattle.records.proofs.Places.{Between, between-all, between-up, between-down}
 use borrow.Author.Needs.{needs}
 use Rattle.records.proofs.find.Statement.{statement}
 use Rattle.records.proofs.find.Tie as tie
 
 abbrev Inv-loop : tie.InvT-loop
-Inv-loop out n r low₀ high₀ low high = (low ≤ high) × (high ≤ n) × ((k : ℕ) → k < low → below (recordAt out k) r ≡ true) × ((k : ℕ) → high ≤ k → k < n → below (recordAt out k) r ≡ false)
+Inv-loop out n r low₀ high₀ low high = (low ≤ high) × (high ≤ n) × Between out n r low high
 
 abbrev μ-loop : tie.MeasureT-loop
 μ-loop out n r low₀ high₀ low high = high - low
 
 loop-holds : tie.Need-loop-holds Inv-loop μ-loop
-loop-holds c = (omega arith, omega arith, λ k l. absurd (omega arith), λ k l m. absurd (omega arith))
+loop-holds c =
+    let args = c .before .before .args in
+    (omega arith, omega arith, between-all (args .out .now) (args .n) (args .r .now))
 
 sub-mid : tie.Need-sub-mid Inv-loop μ-loop
 sub-mid c = search needs
@@ -66,9 +66,9 @@ loop-less c = search needs
 loop-again : tie.Need-loop-again Inv-loop μ-loop
 loop-again c =
     let turn = c .before .before .before .before in
-    let args = turn .before .before .before .args in
+    let start = turn .before .before .before in
     let mid = turn .loop .low + (turn .loop .high - turn .loop .low) / 2 in
-    (omega arith, omega arith, under-to (turn .before .before .before .pre .0) (args .r .now) mid (omega arith) (sym (compared (c .before)) ∙ c .if1 .taken), turn .loop .inv .3)
+    (omega arith, omega arith, between-up (start .pre .0) (start .args .r .now) (turn .loop .inv .2) mid (omega arith) (sym (compared (c .before)) ∙ c .if1 .taken))
 
 loop-less-2 : tie.Need-loop-less-2 Inv-loop μ-loop
 loop-less-2 c = search needs
@@ -76,16 +76,15 @@ loop-less-2 c = search needs
 loop-again-2 : tie.Need-loop-again-2 Inv-loop μ-loop
 loop-again-2 c =
     let turn = c .before .before .before .before in
-    let args = turn .before .before .before .args in
+    let start = turn .before .before .before in
     let mid = turn .loop .low + (turn .loop .high - turn .loop .low) / 2 in
-    (omega arith, omega arith, turn .loop .inv .2, over-from (turn .before .before .before .pre .0) (args .r .now) mid (sym (compared (c .before)) ∙ c .if1 .left))
+    (omega arith, omega arith, between-down (start .pre .0) (start .args .r .now) (turn .loop .inv .2) mid (sym (compared (c .before)) ∙ c .if1 .left))
 
 returns : tie.Need-returns Inv-loop μ-loop
 returns c =
     let turn = c .before in
-    let inv = turn .loop .inv in
-    let e : turn .loop .high ≡ turn .loop .low = omega arith in
-    record { within = omega arith; under = inv .2; over = λ k l m. inv .3 k (omega arith) m }
+    let b = turn .loop .inv .2 in
+    record { within = omega arith; under = b .under; over = λ k l m. b .over k (omega arith) m }
 
 pub find-spec : {M : Type 1} → statement M
 find-spec =
