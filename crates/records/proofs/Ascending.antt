@@ -51,7 +51,7 @@ no-longer [] ys a b f = zero-le
 no-longer (x ∷ xs) [] a b f = absurd (List·Memᴰ·not-nil (f x (List·Memᴰ·head refl)))
 no-longer (x ∷ xs) (y ∷ ys) a b f = suc-le-suc (no-longer xs ys (rest-ascends x xs a) (rest-ascends y ys b) later)
   where
-    -- w is above x, and x is not below the first of ys
+    -- nothing above x is the first of ys, since x is among them
     not-first : (w : List ℕ) → List·Memᴰ w xs → w ≡ y → ⊥
     not-first w m e =
         let h = first-below x xs a w m in

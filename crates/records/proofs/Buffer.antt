@@ -18,6 +18,10 @@ unfolding recordsIn
 records-length zero bs = refl
 records-length (suc n) bs = ap suc (records-length n (drop 96 bs))
 
+-- the part of a slice that is the record at k
+pub record-part : (bs : List ℕ) (k : ℕ) → take (96 * k + 96 - 96 * k) (drop (96 * k) bs) ≡ recordAt bs k
+record-part bs k = let e : 96 * k + 96 - 96 * k ≡ 96 = omega arith in ap (λ (m : ℕ). take m (drop (96 * k) bs)) e
+
 -- the places of a whole and of what follows its first k records
 
 pub record-drop : (bs : List ℕ) (k i : ℕ) → recordAt (drop (96 * k) bs) i ≡ recordAt bs (k + i)

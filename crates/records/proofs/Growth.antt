@@ -1,7 +1,7 @@
 -- How additions to a buffer compose: none, one after the other, the same in other words, and one that had no room. Assumes nothing.
 use mathlib.Core.Path.{_≡_, refl, sym, _∙_, subst}
 use mathlib.Core.Logic.{_⊎_, inl, inr, ⊎-elim, _↔_}
-use mathlib.Core.Bool.{Bool, true, false, true≢false, false≢true}
+use mathlib.Core.Bool.{Bool, true, false, true≢false}
 use mathlib.Core.List.{List}
 use Prim.Native.Nat.{ℕ, _/_}
 use lib.ListN.{length}
@@ -41,8 +41,8 @@ pub more-of : {P Q : List ℕ → Type 0} {m : ℕ} → ((r : List ℕ) → P r 
 more-of f x = record { some = x .some; sorted = x .sorted; pass = λ r h. f r (x .pass r h); many = x .many }
 
 module _ {P : List ℕ → Type 0} where
-  pub filled-none : {bs : List ℕ} {n : ℕ} → Held bs n → Filled P bs bs n false
-  filled-none h = record { size = refl; held = λ _. h; lacks = λ e. absurd (false≢true e) }
+  pub filled-none : {bs : List ℕ} {n : ℕ} {full : Bool} → full ≡ false → Held bs n → Filled P bs bs n full
+  filled-none z h = record { size = refl; held = λ _. h; lacks = λ e. absurd (true≢false (sym e ∙ z)) }
 
   pub filled-of : {Q : List ℕ → Type 0} {before after : List ℕ} {m : ℕ} {full : Bool} →
       ((r : List ℕ) → P r → Q r) → Filled P before after m full → Filled Q before after m full
@@ -55,8 +55,8 @@ module _ {P : List ℕ → Type 0} where
 -- records added
 
 module _ {P : List ℕ → Type 0} {before : List ℕ} {n : ℕ} where
-  pub grown-none : Held before n → ((r : List ℕ) → P r → ⊥) → Grown P before n before n false
-  grown-none h f = record { filled = filled-none h; members = λ _ r. none-second (f r) }
+  pub grown-none : {full : Bool} → full ≡ false → Held before n → ((r : List ℕ) → P r → ⊥) → Grown P before n before n full
+  grown-none z h f = record { filled = filled-none z h; members = λ _ r. none-second (f r) }
 
   module _ {mid : List ℕ} {m : ℕ} {full : Bool} where
     pub grown-same : {Q : List ℕ → Type 0} → ((r : List ℕ) → P r ↔ Q r) → Grown P before n mid m full → Grown Q before n mid m full
@@ -78,12 +78,12 @@ module _ {P : List ℕ → Type 0} {before : List ℕ} {n : ℕ} where
 -- records added, and a mark
 
 module _ {P : List ℕ → Type 0} {C : Type 0} {before : List ℕ} {n : ℕ} {cut : Bool} where
-  pub explored-none : Held before n → ((r : List ℕ) → P r → ⊥) → (C → ⊥) → Explored P C before n cut before n cut false
-  explored-none h f g = record { grown = grown-none h f; marked = λ _. none-second g }
+  pub explored-none : {full : Bool} → full ≡ false → Held before n → ((r : List ℕ) → P r → ⊥) → (C → ⊥) → Explored P C before n cut before n cut full
+  explored-none z h f g = record { grown = grown-none z h f; marked = λ _. none-second g }
 
   -- no records, and the mark is set
   pub explored-cut : Held before n → ((r : List ℕ) → P r → ⊥) → C → Explored P C before n cut before n true false
-  explored-cut h f c = record { grown = grown-none h f; marked = λ _. (λ _. inr c, λ _. refl) }
+  explored-cut h f c = record { grown = grown-none refl h f; marked = λ _. (λ _. inr c, λ _. refl) }
 
   -- records, and the mark is left
   pub explored-added : {mid : List ℕ} {m : ℕ} {full : Bool} → (C → ⊥) → Grown P before n mid m full → Explored P C before n cut mid m cut full

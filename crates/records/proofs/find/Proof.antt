@@ -1,10 +1,11 @@
 -- The records before `low` are below r, and those from `high` on are not.
 use mathlib.Core.Path.{_≡_, sym, ap, _∙_}
-use Prim.Native.Nat.{ℕ, _+_, _*_, _/_, _≤_, _-_}
+use Prim.Native.Nat.{ℕ, _+_, _/_, _≤_, _-_}
 use native.Mathlib.Omega.{arith}
-use lib.ListN.{take, drop}
+use mathlib.Core.List.{List}
 use Rattle.runs.specs.Listing.{below}
 use Rattle.records.specs.Buffer.{recordAt}
+use Rattle.records.proofs.Buffer.{record-part}
 use Rattle.records.proofs.Places.{Between, between-all, between-up, between-down}
 use borrow.Author.Needs.{needs}
 use Rattle.records.proofs.find.Statement.{statement}
@@ -54,8 +55,7 @@ compared c =
     let turn = c .before .before .before in
     let args = turn .before .before .before .args in
     let mid = turn .loop .low + (turn .loop .high - turn .loop .low) / 2 in
-    let e : 96 * mid + 96 - 96 * mid ≡ 96 = omega arith in
-    c .below .ensures ∙ ap (λ (k : ℕ). below (take k (drop (96 * mid) (args .out .now))) (args .r .now)) e
+    c .below .ensures ∙ ap (λ (x : List ℕ). below x (args .r .now)) (record-part (args .out .now) mid)
 
 add-low : tie.Need-add-low Inv-loop μ-loop
 add-low c = search needs

@@ -1,11 +1,12 @@
 use mathlib.Core.Path.{_≡_, sym, ap, _∙_, subst}
 use mathlib.Core.Logic.{_↔_}
 use mathlib.Core.Bool.{Bool, true, not}
-use Prim.Native.Nat.{ℕ, _+_, _*_, _-_}
+use Prim.Native.Nat.{ℕ}
 use native.Mathlib.Omega.{arith}
-use lib.ListN.{take, drop}
+use mathlib.Core.List.{List}
 use Rattle.runs.specs.Listing.{below}
 use Rattle.records.specs.Buffer.{Among}
+use Rattle.records.proofs.Buffer.{record-part}
 use Rattle.records.proofs.Places.{past-all, stands-at}
 use borrow.Author.Needs.{needs}
 use Rattle.records.proofs.there.Statement.{statement}
@@ -39,9 +40,7 @@ returns-2 c =
     let start = c .before .before .before .before .before in
     let out = start .args .out .now in
     let r = start .args .r .now in
-    let at = start .args .at in
-    let e : 96 * at + 96 - 96 * at ≡ 96 = omega arith in
-    let said = c .below .ensures ∙ ap (λ (k : ℕ). below r (take k (drop (96 * at) out))) e in
+    let said = c .below .ensures ∙ ap (λ (x : List ℕ). below r x) (record-part out (start .args .at)) in
     subst (λ (b : Bool). (not b ≡ true) ↔ Among out (start .args .n) r) (sym said) (stands-at (start .pre .0) r (start .pre .2) (omega arith))
 
 pub there-spec : {M : Type 1} → statement M
