@@ -15,10 +15,13 @@ module _ (m : Model) where
     counted n (stop {s = s} h) p = subst (P (n + 0)) h (subst (λ (k : ℕ). P k s) (omega arith) p)
     counted n {e = e} (go {s = s} {t = t} {ts = ts} h w) p = subst (λ (k : ℕ). P k e) (omega arith) (counted (suc n) w (keeps n s t h p))
 
+    -- after every accepted schedule from the start
+    pub counted-after : P 0 (m .initial) → (ts : List (m .Step)) (e : m .State) → Leads m (m .initial) ts e → P (length ts) e
+    counted-after p ts e l = subst (λ (k : ℕ). P k e) (omega arith) (counted 0 (walk m ts (m .initial) e l) p)
+
   module _ (P : m .State → Type 0) (keeps : (s : m .State) (t : m .Step) → m .code s t ≡ 0 → P s → P (m .next s t)) where
     pub always : {s e : m .State} {ts : List (m .Step)} → Walk m s ts e → P s → P e
     always w p = counted (λ n. P) (λ n. keeps) 0 w p
 
-    -- after every accepted schedule from the start
     pub always-after : P (m .initial) → (ts : List (m .Step)) (e : m .State) → Leads m (m .initial) ts e → P e
     always-after p ts e l = always (walk m ts (m .initial) e l) p
