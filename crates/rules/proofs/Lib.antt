@@ -4,3 +4,7 @@ pub mod Accepted
 pub mod Actions
 pub mod Steps
 pub mod Strict
+pub mod Sources
+pub mod Candidates
+pub mod Listing
+pub mod Bytes

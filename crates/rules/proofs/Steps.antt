@@ -15,7 +15,7 @@ use Rattle.runs.proofs.Always.{counted-after}
 use Rattle.rules.specs.State.{State, Action, initial}
 use Rattle.rules.specs.Issue.{newAction, issued}
 use Rattle.rules.specs.Commit.{settled, committed}
-use Rattle.rules.specs.Step.{Step}
+use Rattle.rules.specs.Step.{Step, stepCode, after}
 use Rattle.rules.specs.Womm.{womm}
 use Rattle.rules.proofs.Accepted.{CanIssue, CanCommit}
 use Rattle.rules.proofs.Actions.{either, by-step, waits-none}
@@ -88,11 +88,15 @@ spent-commit c n s p k e T h =
       steps = omega (arith, h .steps, spent-put (s .actions) (s .count) k (settled c s p k e) _ (T .there) (waits-none p (s .actions k) (T .waits)) refl);
     }
 
--- a state that an accepted schedule of n steps leads to
-pub spent-after : (c : Case) (ts : List Step) (e : State) → Leads (womm c) (initial c) ts e → Spent (length ts) e
+pub spent-initial : (c : Case) → Spent 0 (initial c)
 unfolding spent
-spent-after c ts e l = counted-after (womm c) Spent (by-step c Spent (spent-issue c) (spent-commit c)) (record { few = omega arith; steps = refl }) ts e l
+spent-initial c = record { few = omega arith; steps = refl }
+
+pub spent-step : (c : Case) (n : ℕ) (s : State) (t : Step) → stepCode c s t ≡ 0 → Spent n s → Spent (suc n) (after c s t)
+spent-step c = by-step c Spent (spent-issue c) (spent-commit c)
 
 -- 'At most 96 steps in a schedule'
 pub at-most-96 : (c : Case) (ts : List Step) (e : State) → Leads (womm c) (initial c) ts e → length ts ≤ 96
-at-most-96 c ts e l = let r = spent-after c ts e l in omega (arith, r .few, r .steps, spent-most (e .actions) (e .count))
+at-most-96 c ts e l =
+    let r = counted-after (womm c) Spent (spent-step c) (spent-initial c) ts e l in
+    omega (arith, r .few, r .steps, spent-most (e .actions) (e .count))
