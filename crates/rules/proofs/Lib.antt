@@ -8,3 +8,6 @@ pub mod Sources
 pub mod Candidates
 pub mod Listing
 pub mod Bytes
+pub mod Tables
+pub mod Shapes
+pub mod Readings
