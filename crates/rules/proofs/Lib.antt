@@ -8,6 +8,7 @@ pub mod Sources
 pub mod Candidates
 pub mod Listing
 pub mod Bytes
+pub mod Quick
 pub mod Tables
 pub mod Shapes
 pub mod Readings

@@ -16,7 +16,8 @@ use Rattle.runs.proofs.Search.{search, cuts}
 use Rattle.rules.specs.State.{initial}
 use Rattle.rules.specs.Result.{finished, registerOf}
 use Rattle.rules.specs.Womm.{womm}
-use Rattle.rules.specs.Claims.{Claim, lists, replays, finishes, leaves, orders, reached, codeOf, Holds, Every}
+use Rattle.rules.specs.Claims.{Claim, lists, replays, finishes, leaves, orders, reached, codeOf, caseIn, Says, Holds, Every}
+use Rattle.rules.proofs.Quick.{quick, quick-sound}
 use Rattle.rules.proofs.Candidates.{candidates, outcomes-found, cut-found}
 
 abbrev same : List ℕ → List ℕ → Bool
@@ -64,16 +65,19 @@ abbrev outcomes : Case → ℕ → List (List ℕ)
 outcomes c n = search (womm c) (candidates c) n (initial c)
 
 -- a row, as a test
-unfoldable pub test : Claim → Bool
-test (lists c n rs cut) = ascending rs && (within rs (outcomes c n) && (within (outcomes c n) rs && Bool·beq cut (cuts (womm c) (candidates c) n (initial c))))
-test (replays c ts taken code) = eqb (replay (womm c) (initial c) ts .taken) taken && eqb (codeOf c ts) code
-test (finishes c ts) = eqb (codeOf c ts) 0 && finished c (reached c ts)
-test (leaves c ts p k v) = eqb (codeOf c ts) 0 && sameValue (registerOf c (reached c ts) p k) v
-test (orders c ts l a b r) = eqb (codeOf c ts) 0 && Bool·beq (reached c ts .orders l a b) r
+abbrev saying : Claim → Bool
+saying (lists c n rs cut) = ascending rs && (within rs (outcomes c n) && (within (outcomes c n) rs && Bool·beq cut (cuts (womm c) (candidates c) n (initial c))))
+saying (replays c ts taken code) = eqb (replay (womm c) (initial c) ts .taken) taken && eqb (codeOf c ts) code
+saying (finishes c ts) = eqb (codeOf c ts) 0 && finished c (reached c ts)
+saying (leaves c ts p k v) = eqb (codeOf c ts) 0 && sameValue (registerOf c (reached c ts) p k) v
+saying (orders c ts l a b r) = eqb (codeOf c ts) 0 && Bool·beq (reached c ts .orders l a b) r
 
-holds : (k : Claim) → test k ≡ true → Holds k
-unfolding test
-holds (lists c n rs cut) h =
+-- its case is sound besides
+unfoldable pub test : Claim → Bool
+test k = quick (caseIn k) && saying k
+
+says : (k : Claim) → saying k ≡ true → Says k
+says (lists c n rs cut) h =
     let w = and-both (ascending rs) _ h in
     let v = and-both (within rs (outcomes c n)) _ (w .1) in
     let u = and-both (within (outcomes c n) rs) _ (v .1) in
@@ -84,11 +88,15 @@ holds (lists c n rs cut) h =
       },
       (λ k. cut-found c n .0 (sym e ∙ k), λ k. e ∙ cut-found c n .1 k),
     )
-holds (replays c ts taken code) h = let w = and-both _ _ h in (eqb-true _ _ (w .0), eqb-true _ _ (w .1))
-holds (finishes c ts) h = let w = and-both _ _ h in (eqb-true _ _ (w .0), w .1)
-holds (leaves c ts p k v) h = let w = and-both _ _ h in (eqb-true _ _ (w .0), sameValue-eq _ _ (w .1))
-holds (orders c ts l a b r) h = let w = and-both _ _ h in (eqb-true _ _ (w .0), beq-eq _ _ (w .1))
+says (replays c ts taken code) h = let w = and-both _ _ h in (eqb-true _ _ (w .0), eqb-true _ _ (w .1))
+says (finishes c ts) h = let w = and-both _ _ h in (eqb-true _ _ (w .0), w .1)
+says (leaves c ts p k v) h = let w = and-both _ _ h in (eqb-true _ _ (w .0), sameValue-eq _ _ (w .1))
+says (orders c ts l a b r) h = let w = and-both _ _ h in (eqb-true _ _ (w .0), beq-eq _ _ (w .1))
 
 pub every : (l : List Claim) → all test l ≡ true → Every Holds l
+unfolding test
 every [] h = tt
-every (k ∷ ks) h = let w = and-both (test k) (all test ks) h in (holds k (w .0), every ks (w .1))
+every (k ∷ ks) h =
+    let w = and-both (test k) (all test ks) h in
+    let v = and-both (quick (caseIn k)) (saying k) (w .0) in
+    ((quick-sound (caseIn k) (v .0), says k (v .1)), every ks (w .1))

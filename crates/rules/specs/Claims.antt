@@ -11,6 +11,7 @@ use Rattle.cases.specs.declared.Instr.{Instr}
 use Rattle.cases.specs.declared.Instr.the-variants.{Empty}
 use Rattle.cases.specs.declared.Slot.{Slot}
 use Rattle.cases.specs.declared.Case.{Case}
+use Rattle.cases.specs.Block.{Sound}
 use Rattle.runs.specs.Replay.{replay}
 use Rattle.runs.specs.Outcome.{Outcome, Cut}
 use Rattle.runs.specs.Listing.{RecordsOf}
@@ -39,13 +40,25 @@ reached c ts = replay (womm c) (initial c) ts .state
 abbrev pub codeOf : Case → List Step → ℕ
 codeOf c ts = replay (womm c) (initial c) ts .code
 
+-- The case of a row.
+abbrev pub caseIn : Claim → Case
+caseIn (lists c n rs cut) = c
+caseIn (replays c ts taken code) = c
+caseIn (finishes c ts) = c
+caseIn (leaves c ts p k v) = c
+caseIn (orders c ts l a b r) = c
+
 -- What a row says.
+abbrev pub Says : Claim → Type 0
+Says (lists c n rs cut) = RecordsOf (Outcome (womm c) n) rs × ((cut ≡ true) ↔ Cut (womm c) n)
+Says (replays c ts taken code) = (replay (womm c) (initial c) ts .taken ≡ taken) × (codeOf c ts ≡ code)
+Says (finishes c ts) = (codeOf c ts ≡ 0) × (finished c (reached c ts) ≡ true)
+Says (leaves c ts p k v) = (codeOf c ts ≡ 0) × (registerOf c (reached c ts) p k ≡ v)
+Says (orders c ts l a b r) = (codeOf c ts ≡ 0) × (reached c ts .orders l a b ≡ r)
+
+-- A row holds: its case is sound, and what it says is so.
 abbrev pub Holds : Claim → Type 0
-Holds (lists c n rs cut) = RecordsOf (Outcome (womm c) n) rs × ((cut ≡ true) ↔ Cut (womm c) n)
-Holds (replays c ts taken code) = (replay (womm c) (initial c) ts .taken ≡ taken) × (codeOf c ts ≡ code)
-Holds (finishes c ts) = (codeOf c ts ≡ 0) × (finished c (reached c ts) ≡ true)
-Holds (leaves c ts p k v) = (codeOf c ts ≡ 0) × (registerOf c (reached c ts) p k ≡ v)
-Holds (orders c ts l a b r) = (codeOf c ts ≡ 0) × (reached c ts .orders l a b ≡ r)
+Holds k = Sound (caseIn k) × Says k
 
 -- Every row of a table.
 abbrev pub Every : {A : Type 0} → (A → Type 0) → List A → Type 0
