@@ -1,12 +1,11 @@
 -- The steps that a state may accept, listed: every accepted step is among them. Assumes nothing.
-use mathlib.Core.Path.{_≡_, refl, sym, ap, subst}
-use mathlib.Core.Logic.{_⊎_, inl, inr, ⊎-elim, _↔_}
+use mathlib.Core.Path.{_≡_, refl, sym, ap}
+use mathlib.Core.Logic.{_⊎_, ⊎-elim, _↔_}
 use mathlib.Core.Bool.{Bool, true, false, cond}
 use mathlib.Core.List.{List, [], _∷_, _++_, map, List·Memᴰ, List·Memᴰ·head, List·Memᴰ·tail, Memᴰ·append-left, Memᴰ·append-right, Memᴰ·map, Memᴰ·cast}
 use Prim.Native.Nat.{ℕ, _+_}
 use native.Mathlib.Omega.{arith}
 use Rattle.words.specs.Small.{counting, concatMap}
-use Rattle.words.proofs.Bools.{decide}
 use Rattle.cases.specs.declared.Case.{Case}
 use Rattle.runs.specs.Outcome.{Outcome, Cut}
 use Rattle.runs.proofs.Search.{Covers, search, cuts, search-right, cuts-right, concatMap-make}

@@ -9,6 +9,7 @@ pub mod Candidates
 pub mod Listing
 pub mod Bytes
 pub mod Quick
-pub mod Tables
+pub mod Rows
 pub mod Shapes
 pub mod Readings
+pub mod Codes

@@ -13,7 +13,7 @@ use Rattle.rules.specs.Step.{stepCode, after}
 use Rattle.rules.specs.Claims.{Every, Holds}
 use Rattle.rules.specs.Readings.{readings}
 use Rattle.rules.proofs.Quick.{quick}
-use Rattle.rules.proofs.Tables.{test, every}
+use Rattle.rules.proofs.Rows.{test, every}
 
 computed : all test readings ≡ true
 unfolding test quick bad3 bad4 bad5 bad6 zero5 badByte contents someBelow firstOf replay heldBy joined joinedIf issueRefusals issued visible commitRefusals committed stepCode after

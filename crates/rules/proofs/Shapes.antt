@@ -16,7 +16,7 @@ use Rattle.rules.specs.Claims.{Every, Holds}
 use Rattle.rules.specs.Shapes.{shapes}
 use Rattle.rules.proofs.Candidates.{candidates}
 use Rattle.rules.proofs.Quick.{quick}
-use Rattle.rules.proofs.Tables.{test, every}
+use Rattle.rules.proofs.Rows.{test, every}
 
 computed : all test shapes ≡ true
 unfolding test quick bad3 bad4 bad5 bad6 zero5 badByte contents someBelow firstOf replay search cuts candidates heldBy joined joinedIf issueRefusals issued visible commitRefusals committed stepCode after finished registers

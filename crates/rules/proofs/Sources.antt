@@ -1,24 +1,23 @@
 -- After every accepted schedule the items that a commit may name are those of the actions issued and the initial writes. Assumes nothing.
 use mathlib.Core.Path.{_≡_, refl, sym, _∙_, ap, subst}
 use mathlib.Core.Logic.{_⊎_, inl, inr, ⊎-elim}
-use mathlib.Core.Bool.{Bool, true, false, not, cond, _&&_, false≢true}
-use mathlib.Core.List.{List}
-use mathlib.Core.Option.{Option, none, some}
-use Prim.Native.Nat.{ℕ, suc, _+_, _-_, _≤_, _<_}
+use mathlib.Core.Bool.{Bool, true, false, not, _&&_, false≢true}
+use mathlib.Core.Option.{none}
+use Prim.Native.Nat.{ℕ, _+_, _-_, _≤_, _<_}
 use native.Mathlib.Omega.{arith}
 use native.Mathlib.Decide.{decLt}
-use lib.Dec.{eqb, ltb}
-use borrow.Author.Tests.{eqb-true, le-ltb, not-false}
+use lib.Dec.{eqb}
+use borrow.Author.Tests.{eqb-true, le-ltb}
 use Rattle.words.specs.Small.{isNone}
 use Rattle.words.proofs.Bools.{decide}
 use Rattle.cases.specs.declared.Case.{Case}
 use Rattle.rules.specs.Kinds.{reading, writing}
 use Rattle.rules.specs.State.{State, Action, initial, kindOf, itemValue}
-use Rattle.rules.specs.Issue.{newAction, issued}
-use Rattle.rules.specs.Commit.{settled, committed}
+use Rattle.rules.specs.Issue.{issued}
+use Rattle.rules.specs.Commit.{committed}
 use Rattle.rules.specs.Step.{Step, stepCode, after}
-use Rattle.rules.proofs.Accepted.{CanIssue, CanCommit, sees-cases}
-use Rattle.rules.proofs.Actions.{either, by-step, issued-old, issued-new, issued-count, committed-other, committed-count, item-cases}
+use Rattle.rules.proofs.Accepted.{CanCommit, sees-cases}
+use Rattle.rules.proofs.Actions.{by-step, issued-old, issued-count, committed-other, committed-count, item-cases}
 
 -- an action that is not issued has no result
 abbrev pub Unset : State → Type 0

@@ -2,10 +2,10 @@
 -- An edge leads to an action, from an earlier one of its processor or from one that a committed release of its own processor came after.
 use mathlib.Core.Path.{_≡_, refl, sym, _∙_, ap, subst}
 use mathlib.Core.Logic.{_⊎_, inl, inr, ⊎-elim}
-use mathlib.Core.Bool.{Bool, true, false, _&&_, _||_, false≢true}
+use mathlib.Core.Bool.{Bool, true, false, _&&_, false≢true}
 use mathlib.Core.List.{List}
 use mathlib.Core.Option.{Option, none, some}
-use Prim.Native.Nat.{ℕ, suc, _+_, _≤_, _<_}
+use Prim.Native.Nat.{ℕ, _+_, _≤_, _<_}
 use native.Mathlib.Omega.{arith}
 use native.Mathlib.Decide.{decLt}
 use lib.Dec.{eqb}
@@ -19,13 +19,13 @@ use Rattle.runs.proofs.Always.{always-after}
 use Rattle.rules.specs.Kinds.{kind, releasing, heldBy}
 use Rattle.rules.specs.Order.{Order, joinedIf}
 use Rattle.rules.specs.State.{State, Action, initial, kindOf, waiting, standsAt}
-use Rattle.rules.specs.Issue.{newAction, earlier, issued}
+use Rattle.rules.specs.Issue.{earlier, issued}
 use Rattle.rules.specs.Commit.{input, heldBack, released, committed}
 use Rattle.rules.specs.Step.{Step}
 use Rattle.rules.specs.Womm.{womm}
 use Rattle.rules.proofs.Closed.{Transitive, UpTo, Via, joined-cases, joined-transitive}
-use Rattle.rules.proofs.Accepted.{CanIssue, CanCommit}
-use Rattle.rules.proofs.Actions.{either, by-step, waits-none, waits-proc, issued-old, issued-new, issued-count, committed-other, committed-self, committed-count, committed-keeps, item-high, item-cases}
+use Rattle.rules.proofs.Accepted.{CanCommit}
+use Rattle.rules.proofs.Actions.{either, by-step, waits-none, waits-proc, issued-old, issued-new, issued-count, committed-other, committed-self, committed-count, committed-keeps, item-cases}
 
 -- transitive
 

@@ -5,8 +5,8 @@ use mathlib.Core.List.{List, [], _∷_, _++_, map}
 use mathlib.Core.Logic.{_↔_}
 use mathlib.Core.Option.{Option, none, some}
 use Prim.Native.Nat.{ℕ, _-_}
-use lib.ListN.{length, getD, replicate}
-use Rattle.words.specs.Small.{orZero, each, concatMap}
+use lib.ListN.{length, replicate}
+use Rattle.words.specs.Small.{orZero, concatMap}
 use Rattle.cases.specs.declared.Instr.{Instr}
 use Rattle.cases.specs.declared.Instr.the-variants.{Empty}
 use Rattle.cases.specs.declared.Slot.{Slot}

@@ -9,3 +9,4 @@ pub mod Womm
 pub mod Claims
 pub mod Shapes
 pub mod Readings
+pub mod Codes

@@ -1,4 +1,5 @@
 pub mod Walk
+pub mod Told
 pub mod Always
 pub mod ByteOrder
 pub mod Unique
