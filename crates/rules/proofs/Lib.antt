@@ -1,3 +1,15 @@
 pub mod Closed
 pub mod Orders
 pub mod Accepted
+pub mod Actions
+pub mod Steps
+pub mod Strict
+pub mod Sources
+pub mod Candidates
+pub mod Listing
+pub mod Bytes
+pub mod Quick
+pub mod Rows
+pub mod Shapes
+pub mod Readings
+pub mod Codes
