@@ -5,3 +5,6 @@ pub mod Reduce
 pub mod Swap
 pub mod Commits
 pub mod Issues
+pub mod Sure
+pub mod Held
+pub mod Renumber
