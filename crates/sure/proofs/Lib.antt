@@ -8,3 +8,6 @@ pub mod Issues
 pub mod Sure
 pub mod Held
 pub mod Renumber
+pub mod Pairs
+pub mod Room
+pub mod Whole

@@ -1,6 +1,6 @@
 -- Sure steps: where one is accepted, a search may take it alone. Assumes nothing.
 use mathlib.Core.Bool.{Bool, false, not, _&&_, _||_}
-use Prim.Native.Nat.{ℕ, _+_}
+use Prim.Native.Nat.{ℕ, _+_, _≤_, _<_}
 use lib.Dec.{eqb, leb}
 use Rattle.words.specs.Small.{someBelow}
 use Rattle.cases.specs.declared.Instr.{Instr}
@@ -9,6 +9,12 @@ use Rattle.cases.specs.Case.{countOf, instrAt}
 use Rattle.rules.specs.Kinds.{kind, reading, branching, acquiring, labelOf}
 use Rattle.rules.specs.State.{State, kindOf}
 use Rattle.rules.specs.Step.{Step, issue, commit, neither}
+
+-- What the laws need of a sound case: at most 4 processors with at most 12 instructions each, so that 48 actions are enough
+-- for programs that never jump back.
+pub record Sized (c : Case) : Type 0 where
+  pub few : c .procs ≤ 4
+  pub short : (p : ℕ) → p < c .procs → countOf c p ≤ 12
 
 -- The commit of a local, a branch, a goto, a write or a release: of neither a read nor an acquire.
 abbrev pub sureKind : ℕ → Bool
