@@ -11,3 +11,4 @@ pub mod Renumber
 pub mod Pairs
 pub mod Room
 pub mod Whole
+pub mod Quiet
