@@ -12,3 +12,4 @@ pub mod Pairs
 pub mod Room
 pub mod Whole
 pub mod Quiet
+pub mod Firm
