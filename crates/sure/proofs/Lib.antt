@@ -13,3 +13,4 @@ pub mod Room
 pub mod Whole
 pub mod Quiet
 pub mod Firm
+pub mod Spent

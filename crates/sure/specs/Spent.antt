@@ -1,5 +1,5 @@
 -- Spent steps: steps whose branch a search has been through, so that it may leave them out later on. Assumes nothing.
-use mathlib.Core.Bool.{Bool, false, not, _&&_, _||_}
+use mathlib.Core.Bool.{Bool, true, false, not, _&&_, _||_}
 use Prim.Native.Nat.{ℕ, suc}
 use lib.Dec.{eqb, leb}
 use Rattle.cases.specs.declared.Case.{Case}
@@ -35,6 +35,11 @@ asleep sp neither = false
 abbrev pub restable : ℕ → Bool
 restable k = reading k || acquiring k
 
+-- The step of the key may be spent.
+abbrev pub restful : State → Key → Bool
+restful s (taking k e) = restable (kindOf (s .actions k))
+restful s (issuing p) = true
+
 -- Two acquires of one location.
 abbrev pub rivals : State → Action → Action → Bool
 rivals s a b = acquiring (kindOf a) && (acquiring (kindOf b) && eqb (inputOf s a 0) (inputOf s b 0))
@@ -48,6 +53,6 @@ wakes s (commit p j f) (taking k e) = rivals s (s .actions j) (s .actions k)
 wakes s (commit p j f) (issuing q) = false
 wakes s neither a = false
 
--- What is spent and stays so after the step.
-abbrev pub rested : State → Step → Spent → Spent
-rested s t sp a = sp a && not (wakes s t a)
+-- What is spent and is not woken by the step.
+abbrev pub unwoken : State → Step → Spent → Spent
+unwoken s t sp a = sp a && not (wakes s t a)
