@@ -14,3 +14,5 @@ pub mod Whole
 pub mod Quiet
 pub mod Firm
 pub mod Spent
+pub mod Search
+pub mod Sweep
