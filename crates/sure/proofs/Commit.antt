@@ -1,9 +1,12 @@
 -- A commit as one thing, and what the rules say of it. Assumes nothing.
-use mathlib.Core.Path.{_≡_}
-use mathlib.Core.Bool.{Bool, true, false, _&&_}
+use mathlib.Core.Path.{_≡_, sym, _∙_, ap}
+use mathlib.Core.Bool.{Bool, true, false, _&&_, not, false≢true}
+use mathlib.Core.Logic.{⊎-elim}
 use Prim.Native.Nat.{ℕ, _+_}
 use lib.Dec.{eqb}
+use borrow.Author.Tests.{eqb-true}
 use Rattle.words.specs.Small.{is}
+use Rattle.words.proofs.Bools.{and-make, decide}
 use Rattle.cases.specs.declared.Instr.{Instr}
 use Rattle.cases.specs.declared.Case.{Case}
 use Rattle.rules.specs.Kinds.{reading, releasing, heldBy}
@@ -66,3 +69,7 @@ module _ (c : Case) (s : State) (t : Commit) where
   -- an accepted read sees its source
   pub sees-take : CanTake c s t → reading (kindOf (self s t)) ≡ true → Visible c s (self s t .loc) (item t) (t .source)
   sees-take = sees-cases c s (t .proc) (t .action) (t .source)
+
+  -- what is no read names source 0
+  pub source-zero : CanTake c s t → reading (kindOf (self s t)) ≡ false → t .source ≡ 0
+  source-zero T r = ⊎-elim (λ w. eqb-true (t .source) 0 w) (λ w. absurd (false≢true (sym (T .plain) ∙ and-make _ _ (ap not w) (ap not r)))) (decide (eqb (t .source) 0))

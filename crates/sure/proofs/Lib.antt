@@ -17,3 +17,4 @@ pub mod Spent
 pub mod Search
 pub mod Sweep
 pub mod Rows
+pub mod Loop

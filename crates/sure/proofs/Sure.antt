@@ -21,7 +21,7 @@ use Rattle.sure.proofs.Good.{Good, Turning, good-step}
 use Rattle.sure.proofs.Commits.{Apart, turned, kept, can-after, unread-after, commits-meet}
 use Rattle.sure.proofs.Issues.{issue-after, commit-after, issue-meets}
 use Rattle.sure.proofs.Reduce.{Diamond, Done, Open, Laws, diamond-last}
-use Rattle.sure.proofs.Commit.{after-take, CanTake, Commit, asStep, self, can-take, input, the, holds, committedBy, take-ok}
+use Rattle.sure.proofs.Commit.{after-take, CanTake, Commit, asStep, self, can-take, input, the, holds, committedBy, take-ok, source-zero}
 use Rattle.sure.proofs.Held.{release-held, sync-held}
 
 -- an accepted commit of a sure kind
@@ -62,13 +62,10 @@ module _ (c : Case) (s : State) (t : Commit) (G : Good s) (S : SureCommit c s t)
 
     -- one action: the same step
     one : u .action ≡ t .action → asStep u ≡ asStep t
-    one e = λ z. commit (procs z) (e z) ((zero-source u (U .plain) (ap (λ (k : ℕ). reading (kindOf (s .actions k))) e ∙ unread) ∙ sym (zero-source t (T .plain) unread)) z)
+    one e = λ z. commit (procs z) (e z) ((source-zero c s u U (ap (λ (k : ℕ). reading (kindOf (s .actions k))) e ∙ unread) ∙ sym (source-zero c s t T unread)) z)
       where
         procs : u .proc ≡ t .proc
         procs = sym (waits-proc (u .proc) (self s u) (U .waits)) ∙ ap (λ (k : ℕ). s .actions k .proc) e ∙ waits-proc (t .proc) (self s t) (T .waits)
-
-        zero-source : (v : Commit) → (not (eqb (v .source) 0) && not (reading (kindOf (self s v)))) ≡ false → reading (kindOf (self s v)) ≡ false → v .source ≡ 0
-        zero-source v x y = ⊎-elim (λ w. eqb-true (v .source) 0 w) (λ w. absurd (false≢true (sym x ∙ and-make _ _ (ap not w) (ap not y)))) (decide (eqb (v .source) 0))
 
     module _ (d : t .action ≡ u .action → ⊥) where
       locks : syncs (kindOf (self s t)) ≡ true → syncs (kindOf (self s u)) ≡ true → input s t 0 ≡ input s u 0 → ⊥

@@ -1,24 +1,34 @@
 -- The rules by which code that searches with spent steps is proved: what it has told so far, and what is left to try. Assumes nothing.
-use mathlib.Core.Path.{_≡_, refl, sym, _∙_, subst}
+use mathlib.Core.Path.{ap₂, _≡_, refl, sym, _∙_, subst, ap}
 use mathlib.Core.Logic.{_⊎_, inl, inr, ⊎-elim, _↔_}
-use mathlib.Core.Bool.{Bool, true, false, _&&_, _||_, false≢true}
+use mathlib.Core.Bool.{Bool, true, false, _&&_, _||_, false≢true, not}
 use mathlib.Core.List.{List}
-use Prim.Native.Nat.{ℕ, zero, suc}
-use lib.Dec.{eqb}
-use borrow.Author.Tests.{eqb-true}
-use Rattle.words.proofs.Bools.{or-cases, and-both}
+use Prim.Native.Nat.{ℕ, zero, suc, _+_, _-_, _<_}
+use native.Mathlib.Omega.{arith}
+use lib.Dec.{eqb, ltb}
+use borrow.Author.Tests.{eqb-true, ltb-true, ltb-false}
+use Rattle.words.proofs.Bools.{or-cases, and-both, cond-false, decide}
+use Rattle.words.specs.Small.{isNone}
 use Rattle.cases.specs.declared.Case.{Case}
 use Rattle.runs.specs.Outcome.{Outcome, Cut}
 use Rattle.rules.specs.Result.{finished, registers}
 use Rattle.rules.specs.State.{kindOf, initial, State}
 use Rattle.rules.specs.Step.{issue, Step, after, stepCode}
 use Rattle.rules.specs.Womm.{womm}
+use Rattle.rules.specs.Kinds.{reading, acquiring}
+use Rattle.rules.proofs.Accepted.{can-issue}
 use Rattle.sure.specs.Quiet.{quiet}
-use Rattle.sure.specs.Sure.{Sized, sure}
+use Rattle.sure.specs.Sure.{Sized, sure, sureKind}
 use Rattle.sure.specs.Spent.{stepBy, taking, Spent, asleep, issuing, Key, restable, fresh}
+use Rattle.sure.proofs.Good.{Good}
 use Rattle.sure.proofs.Reduce.{Done, Open, done-from, done-to, open-from, open-to}
 use Rattle.sure.proofs.Spent.{Rests, keyed, Resting, resting, Rested, rested-step, Through, Else, to-front}
 use Rattle.sure.proofs.Search.{Known, Calm, Runs, Tried, done-runs, open-runs, tried-branch, covers-start, at-end, no-more, unspent}
+use Rattle.sure.proofs.Commit.{CanTake, Commit, source-zero, sees-take, self, the, can-take}
+
+-- the source of an accepted read is an item
+pub source-there : (c : Case) (s : State) → Good s → (t : Commit) → CanTake c s t → reading (kindOf (self s t)) ≡ true → t .source < 8 + s .count
+source-there c s G t T r = ⊎-elim (λ q. omega (arith, ltb-true (t .source) 8 q)) (λ q. ⊎-elim (λ l. omega (arith, ltb-true (t .source - 8) (s .count) l)) (λ l. absurd (false≢true (sym (sees-take c s t T r .known) ∙ ap isNone (cond-false (ltb (t .source) 8) _ _ q ∙ G .fresh (t .source - 8) (ltb-false _ _ l))))) (decide (ltb (t .source - 8) (s .count)))) (decide (ltb (t .source) 8))
 
 -- What is asked of a search: is r an outcome? is a run cut?
 pub data Question : Type 0 where
@@ -176,6 +186,29 @@ module _ (c : Case) (Z : Sized c) (s : State) (sp : Spent) (K : Known c s) (n : 
               let h = subst (λ (u : Step). stepCode c s u ≡ 0) (k .names) (x .fits) in
               settle (k .key) h (T (k .key) h) q (subst (λ (u : Step). Run c q (after c s u) n) (k .names) (x .then′));
         }
+
+    -- the same by sorts: no sure commit is accepted, and each accepted read, acquire and issue is spent by now
+    pub told-rest : finished c s ≡ false
+        → ((k : ℕ) → k < s .count → sureKind (kindOf (s .actions k)) ≡ true → stepCode c s (stepBy s (taking k 0)) ≡ 0 → ⊥)
+        → ((k e : ℕ) → k < s .count → e < 8 + s .count → reading (kindOf (s .actions k)) ≡ true → stepCode c s (stepBy s (taking k e)) ≡ 0 → now (taking k e) ≡ true)
+        → ((k : ℕ) → k < s .count → acquiring (kindOf (s .actions k)) ≡ true → stepCode c s (stepBy s (taking k 0)) ≡ 0 → now (taking k 0) ≡ true)
+        → ((p : ℕ) → p < c .procs → stepCode c s (issue p) ≡ 0 → now (issuing p) ≡ true)
+        → Told c sp s (suc n) B X
+    told-rest f no-sure read-noted acquire-noted issue-noted = told-all f each
+      where
+        at : (k e : ℕ) → stepCode c s (stepBy s (taking k e)) ≡ 0 → CanTake c s (the (s .actions k .proc) k e)
+        at k e h = can-take c s (the (s .actions k .proc) k e) h
+
+        plain : (k e : ℕ) → stepCode c s (stepBy s (taking k e)) ≡ 0 → reading (kindOf (s .actions k)) ≡ false → now (taking k e) ≡ true
+        plain k e h r =
+            let z : e ≡ 0 = source-zero c s (the (s .actions k .proc) k e) (at k e h) r in
+            let h₀ = subst (λ (i : ℕ). stepCode c s (stepBy s (taking k i)) ≡ 0) z h in
+            subst (λ (i : ℕ). now (taking k i) ≡ true) (sym z)
+            (⊎-elim (λ a. acquire-noted k (at k e h .there) a h₀) (λ a. absurd (no-sure k (at k e h .there) (ap₂ (λ (x y : Bool). not (x || y)) r a) h₀)) (decide (acquiring (kindOf (s .actions k)))))
+
+        each : (a : Key) → stepCode c s (stepBy s a) ≡ 0 → (now a ≡ true) ⊎ Tested c sp s n X (stepBy s a)
+        each (taking k e) h = inl (⊎-elim (λ r. read-noted k e (at k e h .there) (source-there c s (K .reached .good) (the (s .actions k .proc) k e) (at k e h) r) r h) (plain k e h) (decide (reading (kindOf (s .actions k)))))
+        each (issuing p) h = inl (issue-noted p (can-issue c s p h .proc) h)
 
     -- the same of the sources of a quiet read, and it is enough
     pub told-quiet : (k e : ℕ) → stepCode c s (stepBy s (taking k e)) ≡ 0 → quiet c s k ≡ true → ((e : ℕ) → stepCode c s (stepBy s (taking k e)) ≡ 0 → (now (taking k e) ≡ true) ⊎ Tested c sp s n X (stepBy s (taking k e))) → Told c sp s (suc n) B X
