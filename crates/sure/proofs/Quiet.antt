@@ -14,11 +14,12 @@ use Rattle.cases.specs.Case.{countOf, wordOf}
 use Rattle.cases.specs.declared.Instr.the-variants.{Empty, Read, Write, Local, Branch, Goto, Acquire, Release}
 use Rattle.cases.specs.declared.Instr.{Instr}
 use Rattle.cases.specs.declared.Case.{Case}
-use Rattle.runs.specs.Outcome.{CutFrom, OutcomeFrom}
+use Rattle.runs.specs.Outcome.{CutFrom, OutcomeFrom, Leads}
+use Rattle.runs.proofs.Walk.{walk}
 use Rattle.rules.specs.Kinds.{reading, labelOf, acquiring, branching, syncs, releasing, kind, writing}
 use Rattle.rules.specs.Commit.{committed, visible, writes, heldBack}
 use Rattle.rules.specs.Result.{finished}
-use Rattle.rules.specs.State.{Action, valueOf, itemValue, State, itemIs, Name, given, waiting, kindOf, start}
+use Rattle.rules.specs.State.{Action, valueOf, itemValue, State, itemIs, Name, given, waiting, kindOf, start, initial}
 use Rattle.rules.specs.Step.{after, commit, issue, neither, stepCode, Step}
 use Rattle.rules.specs.Womm.{womm}
 use Rattle.rules.specs.Order.{joinedIf}
@@ -27,7 +28,7 @@ use Rattle.rules.proofs.Orders.{joinedIf-false}
 use Rattle.rules.proofs.Accepted.{still, after-commit, Visible, can-issue, visible-make, can-commit, neither-no, counting-mem, finished-still, between}
 use Rattle.sure.specs.Quiet.{ended, pending, quiet}
 use Rattle.sure.proofs.Kept.{Kept, kept-commit, waits-none, waits-proc, not-waiting, input-same, item-kept, carry, settled-same}
-use Rattle.sure.proofs.Good.{Good, good-step}
+use Rattle.sure.proofs.Good.{good, good-initial, Good, good-step}
 use Rattle.sure.proofs.Commits.{unbarred, placesBy, holdersBy, item-test}
 use Rattle.sure.proofs.Reduce.{Done, Open, done-from, done-to, open-from, open-to}
 use Rattle.sure.proofs.Commit.{settledBy, Commit, input, CanTake, releases, can-take, asStep, resultBy, sees-take, the, self, committedBy, take-ok, item, holds, after-take}
@@ -393,7 +394,7 @@ module _ (c : Case) where
           (λ o. inr (Open.later (asStep w) (forced-fits s p k w G Q h x v) (subst (λ (x : State). Open c x n) (sym (forced-after s p k w G Q h x v)) o)))
           (more (good-step c s G (asStep w) h) (quiet-after s p k w G Q h x))
 
-  -- THE THEOREM for reads: at a good state an accepted quiet read may be taken at once, with each of its sources and nothing else.
+  -- the same of runs, at a good state
   module _ (s : State) (p k e : ℕ) (G : Good s) (h : stepCode c s (commit p k e) ≡ 0) (q : quiet c s k ≡ true) where
     Q : Quiet c s p k
     Q = quiet-cases c s p k e h q
@@ -404,14 +405,20 @@ module _ (c : Case) where
     pub open-read : (n : ℕ) → Open c s (suc n) → Taken (λ x. Open c x n) s p k
     open-read n d = ⊎-elim (λ o. o) (λ o. record { source = e; fits = h; then′ = subst (λ (x : State). Open c x n) (sym (read-after s p k e Q)) o }) (read-open n s p k (orZero (itemValue c s e)) G Q d)
 
-    pub outcome-read : (n : ℕ) (r : List ℕ) → OutcomeFrom (womm c) s (suc n) r ↔ Taken (λ x. OutcomeFrom (womm c) x n r) s p k
-    outcome-read n r = (
-      λ o. let x = done-read n r (done-to c (suc n) s r o) in record { source = x .source; fits = x .fits; then′ = done-from c n (x .then′) },
+  -- THE THEOREM: at a state that an accepted schedule leads to, an accepted quiet read may be taken at once, with each of its sources
+  -- and nothing else, for outcomes and for the cut.
+  module _ (s : State) (ts : List Step) (w : Leads (womm c) (initial c) ts s) (p k e : ℕ) (h : stepCode c s (commit p k e) ≡ 0) (q : quiet c s k ≡ true) (n : ℕ) where
+    G : Good s
+    G = good c (walk (womm c) ts (initial c) s w) (good-initial c)
+
+    pub outcome-quiet : (r : List ℕ) → OutcomeFrom (womm c) s (suc n) r ↔ Taken (λ x. OutcomeFrom (womm c) x n r) s p k
+    outcome-quiet r = (
+      λ o. let x = done-read s p k e G h q n r (done-to c (suc n) s r o) in record { source = x .source; fits = x .fits; then′ = done-from c n (x .then′) },
       λ x. done-from c (suc n) (Done.later (commit p k (x .source)) (x .fits) (done-to c n (after c s (commit p k (x .source))) r (x .then′))),
     )
 
-    pub cut-read : (n : ℕ) → CutFrom (womm c) s (suc n) ↔ Taken (λ x. CutFrom (womm c) x n) s p k
-    cut-read n = (
-      λ o. let x = open-read n (open-to c (suc n) s o) in record { source = x .source; fits = x .fits; then′ = open-from c (x .then′) },
+    pub cut-quiet : CutFrom (womm c) s (suc n) ↔ Taken (λ x. CutFrom (womm c) x n) s p k
+    cut-quiet = (
+      λ o. let x = open-read s p k e G h q n (open-to c (suc n) s o) in record { source = x .source; fits = x .fits; then′ = open-from c (x .then′) },
       λ x. open-from c (Open.later (commit p k (x .source)) (x .fits) (open-to c n (after c s (commit p k (x .source))) (x .then′))),
     )

@@ -1,6 +1,6 @@
 -- A search may take a sure step alone. Assumes the laws of sure steps (`Laws`), which other files prove.
 use mathlib.Core.Path.{_≡_, refl, sym, _∙_, ap, subst}
-use mathlib.Core.Logic.{_⊎_, ⊎-elim, _↔_}
+use mathlib.Core.Logic.{_⊎_, ⊎-elim}
 use mathlib.Core.Bool.{true, false, false≢true}
 use mathlib.Core.List.{List, [], _∷_}
 use Prim.Native.Nat.{ℕ, zero, suc, _≤_}
@@ -107,9 +107,3 @@ module _ (c : Case) (Good : ℕ → State → Type 0) (Sure : State → Step →
 
         move : Diamond s t u → Open c (after c (after c s u) t) n → Open c (after c s t) (suc n)
         move k x = Open.later (k .other) (k .fits) (law .cuts (after c (after c s u) t) (after c (after c s t) (k .other)) n (k .meets) x)
-
-    pub sure-outcome : (s : State) (t : Step) (n : ℕ) (r : List ℕ) → Good (suc n) s → Sure s t → OutcomeFrom (womm c) s (suc n) r ↔ OutcomeFrom (womm c) (after c s t) n r
-    sure-outcome s t n r g q = (λ o. done-from c n (done-sure n s t r g q (done-to c (suc n) s r o)), λ o. done-from c (suc n) (Done.later t (law .taken s t q) (done-to c n (after c s t) r o)))
-
-    pub sure-cut : (s : State) (t : Step) (n : ℕ) → Good (suc n) s → Sure s t → CutFrom (womm c) s (suc n) ↔ CutFrom (womm c) (after c s t) n
-    sure-cut s t n g q = (λ o. open-from c (open-sure n s t g q (open-to c (suc n) s o)), λ o. open-from c (Open.later t (law .taken s t q) (open-to c n (after c s t) o)))

@@ -2,6 +2,7 @@
 use mathlib.Core.Path.{_≡_, refl, sym, _∙_, ap, fun-ext}
 use mathlib.Core.Bool.{Bool, true, false, _&&_, _||_, false≢true}
 use mathlib.Core.List.{List}
+use mathlib.Core.Logic.{_⊎_, inl, inr, ⊎-elim}
 use Prim.Native.Nat.{ℕ, zero, suc, _<_, _^_}
 use lib.Bits.{bitOr}
 use lib.ListN.{length, getD, set, replicate}
@@ -10,7 +11,7 @@ use lib.Dec.{eqb}
 use borrow.Author.Tests.{eqb-true, eqb-false, ne-eqb, lt-leb}
 use Rattle.words.specs.Sets.{has}
 use Rattle.words.proofs.Sets.{has-or, has-one, has-zero}
-use Rattle.words.proofs.Bools.{and-left, or-false}
+use Rattle.words.proofs.Bools.{and-left, or-false, or-cases, and-both}
 use Rattle.rules.specs.Kinds.{acquiring}
 use Rattle.rules.specs.State.{kindOf, State}
 use Rattle.rules.specs.Step.{issue, commit}
@@ -51,6 +52,18 @@ module _ (rows : List ℕ) (issues : ℕ) where
   -- the issue of processor p, too
   pub issues-note : (p q : ℕ) → spentBy rows (bitOr issues (2 ^ p)) (issuing q) ≡ (spentBy rows issues (issuing q) || eqb q p)
   issues-note p q = has-or issues (2 ^ p) q ∙ ap (λ (b : Bool). has issues q || b) (has-one p q)
+
+  -- noting one source, or one issue, spends nothing else
+  pub rows-add : (k e : ℕ) → k < length rows → (b : Key) → spentBy (set rows k (bitOr (getD rows k 0) (2 ^ e))) issues b ≡ true → (spentBy rows issues b ≡ true) ⊎ (b ≡ taking k e)
+  rows-add k e h (taking j f) x = ⊎-elim (λ y. inl y) (λ y. inr (new y)) (or-cases (has (getD rows j 0) f) _ (sym (rows-note k (2 ^ e) h j f) ∙ x))
+    where
+      new : (eqb j k && has (2 ^ e) f) ≡ true → taking j f ≡ taking k e
+      new y = let w = and-both (eqb j k) (has (2 ^ e) f) y in λ z. taking (eqb-true j k (w .0) z) (eqb-true f e (sym (has-one e f) ∙ w .1) z)
+  rows-add k e h (issuing q) x = inl x
+
+  pub issues-add : (p : ℕ) → (b : Key) → spentBy rows (bitOr issues (2 ^ p)) b ≡ true → (spentBy rows issues b ≡ true) ⊎ (b ≡ issuing p)
+  issues-add p (taking j f) x = inl x
+  issues-add p (issuing q) x = ⊎-elim (λ y. inl y) (λ y. inr (ap issuing (eqb-true q p y))) (or-cases (has issues q) (eqb q p) (sym (issues-note p q) ∙ x))
 
   module _ (s : State) where
     -- the commit of no acquire wakes nothing

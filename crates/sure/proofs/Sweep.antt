@@ -19,7 +19,7 @@ use Rattle.rules.specs.Kinds.{reading, acquiring}
 use Rattle.rules.proofs.Accepted.{can-issue}
 use Rattle.sure.specs.Quiet.{quiet}
 use Rattle.sure.specs.Sure.{Sized, sure, sureKind}
-use Rattle.sure.specs.Spent.{stepBy, taking, Spent, asleep, issuing, Key, restable, fresh}
+use Rattle.sure.specs.Spent.{stepBy, taking, Spent, asleep, issuing, Key, restable, fresh, restful}
 use Rattle.sure.proofs.Good.{Good}
 use Rattle.sure.proofs.Reduce.{Done, Open, done-from, done-to, open-from, open-to}
 use Rattle.sure.proofs.Spent.{Rests, keyed, Resting, resting, Rested, rested-step, Through, Else, to-front}
@@ -147,6 +147,19 @@ module _ (c : Case) (Z : Sized c) (s : State) (sp : Spent) (K : Known c s) (n : 
           covered = λ a h y. ⊎-elim (λ x. S .covered a x y) (λ w. w .1) (N a h);
         }
 
+    -- one turn of the loop: the branch of the key a, which is spent from then on
+    pub sweep-turn : (a : Key) → stepCode c s (stepBy s a) ≡ 0 → restful s a ≡ true → (z : Spent) → Calm s (stepBy s a) now z → {Y : Question → Type 0} → Told c z (after c s (stepBy s a)) n X Y
+        → (more : Spent) → ((b : Key) → more b ≡ true → (now b ≡ true) ⊎ (b ≡ a)) → Sweep c sp s n more B Y
+    sweep-turn a h r z N {Y} W more M =
+        let S′ = sweep-branch (stepBy s a) h z N W in
+        let new : Resting c s a × Tested c sp s n Y (stepBy s a) = (resting c s a h r, tested-branch (stepBy s a) h z N W) in
+        record {
+          rested = λ b x. ⊎-elim (S′ .rested b) (λ e. subst (Resting c s) (sym e) (new .0)) (M b x);
+          kept = S′ .kept;
+          sound = S′ .sound;
+          covered = λ b x y. ⊎-elim (λ m. S′ .covered b m y) (λ e. subst (λ (b : Key). Tested c sp s n Y (stepBy s b)) (sym e) (new .1)) (M b x);
+        }
+
     -- the same for a row: the sources v of action k
     pub sweep-row : (k : ℕ) (v : ℕ → Bool) (more : Spent) → restable (kindOf (s .actions k)) ≡ true → ((j e : ℕ) → more (taking j e) ≡ (now (taking j e) || (eqb j k && v e))) → ((p : ℕ) → more (issuing p) ≡ now (issuing p))
         → ((e : ℕ) → v e ≡ true → (stepCode c s (stepBy s (taking k e)) ≡ 0) × Tested c sp s n X (stepBy s (taking k e))) → Sweep c sp s n more B X
@@ -161,14 +174,6 @@ module _ (c : Case) (Z : Sized c) (s : State) (sp : Spent) (K : Known c s) (n : 
         old : (a : Key) → more a ≡ true → (now a ≡ true) ⊎ (Resting c s a × Tested c sp s n X (stepBy s a))
         old (taking j e) h = ⊎-elim (λ x. inl x) (λ x. inr (new j e x)) (or-cases (now (taking j e)) (eqb j k && v e) (sym (E j e) ∙ h))
         old (issuing p) h = inl (sym (I p) ∙ h)
-
-    -- the same for the issue of processor p
-    pub sweep-issue : (p : ℕ) (more : Spent) → ((j e : ℕ) → more (taking j e) ≡ now (taking j e)) → ((q : ℕ) → more (issuing q) ≡ (now (issuing q) || eqb q p)) → stepCode c s (issue p) ≡ 0 → Tested c sp s n X (issue p) → Sweep c sp s n more B X
-    sweep-issue p more E I h T = sweep-note more old
-      where
-        old : (a : Key) → more a ≡ true → (now a ≡ true) ⊎ (Resting c s a × Tested c sp s n X (stepBy s a))
-        old (taking j e) x = inl (sym (E j e) ∙ x)
-        old (issuing q) x = ⊎-elim (λ y. inl y) (λ y. inr (subst (λ (r : ℕ). (stepCode c s (issue r) ≡ 0) × Tested c sp s n X (issue r)) (sym (eqb-true q p y)) (h, T))) (or-cases (now (issuing q)) (eqb q p) (sym (I q) ∙ x))
 
     -- a step that is spent by now is done with
     settle : (a : Key) → stepCode c s (stepBy s a) ≡ 0 → (now a ≡ true) ⊎ Tested c sp s n X (stepBy s a) → Tested c sp s n X (stepBy s a)

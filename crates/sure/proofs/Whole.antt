@@ -11,8 +11,8 @@ use Rattle.words.specs.Small.{orZero}
 use Rattle.words.proofs.Bools.{or-cases, decide}
 use Rattle.cases.specs.Case.{countOf}
 use Rattle.cases.specs.declared.Case.{Case}
-use Rattle.runs.specs.Outcome.{OutcomeFrom, CutFrom}
-use Rattle.runs.proofs.Walk.{Walk, stop, go}
+use Rattle.runs.specs.Outcome.{OutcomeFrom, CutFrom, Leads}
+use Rattle.runs.proofs.Walk.{Walk, stop, go, walk}
 use Rattle.rules.specs.Commit.{committed}
 use Rattle.rules.specs.Result.{finished}
 use Rattle.rules.specs.State.{initial, State, Action}
@@ -162,7 +162,7 @@ module _ (c : Case) where
   pub reached-initial : Reached (initial c)
   reached-initial = record { good = good-initial c; counted = λ F. counted-initial c }
 
-  -- THE THEOREM: at a reachable state an accepted sure step may be taken alone.
+  -- the same of runs, at a reachable state
   module _ (Z : Sized c) (s : State) (K : Reached s) (t : Step) (h : stepCode c s t ≡ 0) (n : ℕ) (q : sure c (suc n) s t ≡ true) where
     -- it is sure by the one set of laws or the other
     which : (IsSure c s t × Fine c (suc n) s) ⊎ IsSureCommit c s t
@@ -183,8 +183,13 @@ module _ (c : Case) where
     pub open-alone : Open c s (suc n) → Open c (after c s t) n
     open-alone d = ⊎-elim (λ w. open-sure c (Fine c) (IsSure c) Alike laws n s t (w .1) (w .0) d) (λ S. open-sure c (λ k. Good) (IsSureCommit c) _≡_ (Sure.laws c) n s t (K .good) S d) which
 
+  -- THE THEOREM: at a state that an accepted schedule leads to, an accepted sure step may be taken alone, for outcomes and for the cut.
+  module _ (Z : Sized c) (s : State) (ts : List Step) (w : Leads (womm c) (initial c) ts s) (t : Step) (h : stepCode c s t ≡ 0) (n : ℕ) (q : sure c (suc n) s t ≡ true) where
+    K : Reached s
+    K = reached (walk (womm c) ts (initial c) s w) reached-initial
+
     pub outcome-alone : (r : List ℕ) → OutcomeFrom (womm c) s (suc n) r ↔ OutcomeFrom (womm c) (after c s t) n r
-    outcome-alone r = (λ o. done-from c n (done-alone r (done-to c (suc n) s r o)), λ o. done-from c (suc n) (Done.later t h (done-to c n (after c s t) r o)))
+    outcome-alone r = (λ o. done-from c n (done-alone Z s K t h n q r (done-to c (suc n) s r o)), λ o. done-from c (suc n) (Done.later t h (done-to c n (after c s t) r o)))
 
     pub cut-alone : CutFrom (womm c) s (suc n) ↔ CutFrom (womm c) (after c s t) n
-    cut-alone = (λ o. open-from c (open-alone (open-to c (suc n) s o)), λ o. open-from c (Open.later t h (open-to c n (after c s t) o)))
+    cut-alone = (λ o. open-from c (open-alone Z s K t h n q (open-to c (suc n) s o)), λ o. open-from c (Open.later t h (open-to c n (after c s t) o)))
