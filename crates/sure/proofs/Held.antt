@@ -1,0 +1,35 @@
+-- Rows of the hold-back table, and what a kind is not. Assumes nothing.
+use mathlib.Core.Path.{_≡_, refl}
+use mathlib.Core.Bool.{Bool, true, false}
+use mathlib.Core.Logic.{_⊎_, inl, inr}
+use Prim.Native.Nat.{ℕ}
+use borrow.Author.Tests.{eqb-true}
+use Rattle.words.proofs.Bools.{or-cases}
+use Rattle.rules.specs.Kinds.{reading, writing, branching, acquiring, releasing, syncs, heldBy}
+
+module _ (k q : ℕ) (same : Bool) where
+  -- a release is held back by anything
+  pub release-held : releasing k ≡ true → heldBy k q same ≡ true
+  unfolding heldBy
+  release-held h = rw (eqb-true k 7 h) refl
+
+  -- an acquire or a release is held back by a release
+  pub sync-held : syncs k ≡ true → releasing q ≡ true → heldBy k q same ≡ true
+  unfolding heldBy
+  sync-held h r = step (or-cases (acquiring k) (releasing k) h)
+    where
+      step : (acquiring k ≡ true) ⊎ (releasing k ≡ true) → heldBy k q same ≡ true
+      step (inl a) = rw (eqb-true k 6 a, eqb-true q 7 r) refl
+      step (inr b) = release-held b
+
+  -- a read is held back by an acquire
+  pub read-held : reading k ≡ true → acquiring q ≡ true → heldBy k q same ≡ true
+  unfolding heldBy
+  read-held h a = rw (eqb-true k 1 h, eqb-true q 6 a) refl
+
+-- a read is of no other kind, and so is an acquire
+pub read-only : (k : ℕ) → reading k ≡ true → (branching k ≡ false) × (acquiring k ≡ false) × (releasing k ≡ false) × (writing k ≡ false)
+read-only k h = rw (eqb-true k 1 h) (refl, refl, refl, refl)
+
+pub acquire-only : (k : ℕ) → acquiring k ≡ true → (branching k ≡ false) × (reading k ≡ false) × (releasing k ≡ false)
+acquire-only k h = rw (eqb-true k 6 h) (refl, refl, refl)
