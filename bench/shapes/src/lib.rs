@@ -6,9 +6,11 @@
 
 mod lists;
 mod runs;
+mod times;
 
 pub use lists::lists;
 pub use runs::runs;
+pub use times::print_times;
 
 use std::collections::BTreeSet;
 
