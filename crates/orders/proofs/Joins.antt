@@ -1,21 +1,20 @@
 -- Rows that are joined, as orders. Assumes nothing.
 use mathlib.Core.Path.{_≡_, refl, sym, _∙_, ap, subst, fun-ext}
 use mathlib.Core.Logic.{_⊎_, inl, inr, ⊎-elim}
-use mathlib.Core.Bool.{Bool, true, false, cond, _&&_, _||_}
-use mathlib.Core.List.{List, [], _∷_}
-use Prim.Native.Nat.{ℕ, zero, suc, _+_, _*_, _-_, _^_, _/_, _%_, _≤_, _<_}
-use native.Mathlib.Nat.{eq-or-lt-of-le}
+use mathlib.Core.Bool.{Bool, true, false, _&&_, _||_}
+use mathlib.Core.List.{List}
+use Prim.Native.Nat.{ℕ, _+_, _*_, _-_, _≤_, _<_}
 use native.Mathlib.Omega.{arith}
 use native.Mathlib.Decide.{decLt}
 use lib.Dec.{eqb, ltb}
 use lib.Bits.{bitOr}
 use lib.ListN.{length, getD, set}
 use lib.Seq.{getD-set-same, getD-set-other}
-use borrow.Author.Tests.{eqb-true, eqb-false, eq-eqb, ne-eqb, lt-ltb, le-ltb, ltb-true, ltb-false}
+use borrow.Author.Tests.{ne-eqb, lt-ltb, le-ltb, ltb-true}
 use Rattle.words.specs.Sets.{has}
 use Rattle.words.specs.Small.{someBelow}
-use Rattle.rules.specs.Order.{Order, upTo, joined}
-use Rattle.orders.specs.Rows.{orderOf, Reaches, joinedRow, JoinedTo, Joined}
+use Rattle.rules.specs.Order.{upTo, joined}
+use Rattle.orders.specs.Rows.{orderOf, SetOf, Reaches, joinedRow, JoinedTo, Joined}
 use Rattle.words.proofs.Bools.{decide}
 use Rattle.words.proofs.Sets.{has-or}
 
@@ -90,9 +89,10 @@ order-kept old new l i mask m hl h u = fun-ext (λ (a : ℕ). fun-ext (λ (b : �
     at a b (inr k) = rw k (and-false (ltb m 8) _ ∙ sym (and-false (ltb m 8) _))
     at a b (inl k) = ap (λ (x : ℕ). ltb m 8 && ltb b 56 && has x a) (u .rest (56 * m + b) (elim (decLt m l) [ yes q ↦ inl (omega (arith, ltb-true b 56 k)) | no q ↦ inr (omega arith) ]))
 
-pub all-joined : (old new : List ℕ) (l i mask : ℕ) → l < 8 → i < 56 → length new ≡ 448 → JoinedTo old new l i mask 56 → Joined old new l i mask
-all-joined old new l i mask hl hi len u = record {
+pub all-joined : (old new : List ℕ) (l i mask items n : ℕ) → l < 8 → i < 56 → length new ≡ 448 → JoinedTo old new l i mask 56
+    → ((P : ℕ → Bool) → SetOf n P items → Reaches (orderOf old l) n P mask) → Joined old new l i items n
+all-joined old new l i mask items n hl hi len u h = record {
   size = len;
-  joins = λ n P h. order-joined old new l i mask n P hl hi u h;
-  keeps = λ m h. order-kept old new l i mask m hl h u;
+  joins = λ P q. order-joined old new l i mask n P hl hi u (h P q);
+  keeps = λ m q. order-kept old new l i mask m hl q u;
 }

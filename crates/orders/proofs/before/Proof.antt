@@ -1,5 +1,4 @@
 use mathlib.Core.Path.{sym, _∙_}
-use native.Mathlib.Omega.{arith}
 use Rattle.orders.proofs.Joins.{order-at, order-out}
 use borrow.Author.Needs.{needs}
 use Rattle.orders.proofs.before.Statement.{statement}

@@ -1,5 +1,4 @@
 use borrow.Author.Tests.{eq-eqb, ne-eqb}
-use borrow.Author.Needs.{needs}
 use Rattle.rules.proofs.equal.Statement.{statement}
 use Rattle.rules.proofs.equal.Tie as tie
 
