@@ -1,5 +1,5 @@
 -- Sets and what they reach, one number more. Assumes nothing.
-use mathlib.Core.Path.{_≡_, sym, _∙_, ap}
+use mathlib.Core.Path.{_≡_, refl, sym, _∙_, ap}
 use mathlib.Core.Logic.{⊎-elim}
 use mathlib.Core.Bool.{Bool, true, false, _&&_, _||_}
 use Prim.Native.Nat.{ℕ, _+_, _^_, _<_}
@@ -14,6 +14,10 @@ use Rattle.words.proofs.Bools.{decide}
 use Rattle.words.proofs.Sets.{has-or, has-one, has-zero}
 use Rattle.rules.specs.Order.{Order, upTo}
 use Rattle.orders.specs.Rows.{SetOf, Reaches}
+
+pub below-none : (f : ℕ → Bool) → false ≡ someBelow 0 f
+unfolding someBelow
+below-none f = refl
 
 -- some number below n + 1: n, or one below n
 pub below-next : (n : ℕ) (f : ℕ → Bool) (b h : Bool) → b ≡ someBelow n f → h ≡ f n → (h || b) ≡ someBelow (n + 1) f
