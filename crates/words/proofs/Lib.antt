@@ -1,3 +1,4 @@
 pub mod Bools
 pub mod Sets
 pub mod First
+pub mod Passed

@@ -1,0 +1,32 @@
+-- A list of refusals of which none applies, test by test. Assumes nothing.
+use mathlib.Core.Path.{_≡_, refl, sym}
+use mathlib.Core.Bool.{Bool, true, false, _&&_, false≢true}
+use mathlib.Core.List.{List, [], _∷_}
+use Prim.Native.Nat.{ℕ, suc}
+use native.Mathlib.Omega.{arith}
+use lib.Dec.{ltb}
+use borrow.Author.Tests.{ltb-true}
+use Rattle.words.specs.Refusals.{Refusal, _when_, firstOf}
+use Rattle.words.proofs.Bools.{and-both}
+
+-- no test of the list passes
+abbrev pub Passed : List Refusal → Type 0
+Passed [] = Unit {0}
+Passed (code when test ∷ rest) = (test ≡ false) × Passed rest
+
+-- no code of the list is 0
+abbrev pub positive : List Refusal → Bool
+positive [] = true
+positive (code when test ∷ rest) = ltb 0 code && positive rest
+
+pub passed : (l : List Refusal) → positive l ≡ true → firstOf l ≡ 0 → Passed l
+unfolding firstOf
+passed [] p h = tt
+passed (code when true ∷ rest) p h = absurd (omega (arith, ltb-true 0 code (and-both (ltb 0 code) _ p .0)))
+passed (code when false ∷ rest) p h = (refl, passed rest (and-both (ltb 0 code) _ p .1) h)
+
+pub unpassed : (l : List Refusal) → Passed l → firstOf l ≡ 0
+unfolding firstOf
+unpassed [] p = refl
+unpassed (code when true ∷ rest) p = absurd (false≢true (sym (p .0)))
+unpassed (code when false ∷ rest) p = unpassed rest (p .1)
