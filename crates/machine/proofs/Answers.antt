@@ -1,0 +1,79 @@
+-- The bytes of registers by their places, and whether a machine is finished. Assumes nothing.
+use mathlib.Core.Path.{_≡_, refl, sym, _∙_, ap}
+use mathlib.Core.Logic.{⊎-elim}
+use mathlib.Core.Bool.{Bool, true, false, not, _&&_, false≢true}
+use mathlib.Core.List.{List}
+use mathlib.Core.Option.{Option, none, some}
+use Prim.Native.Nat.{ℕ, zero, suc, _+_, _*_, _/_, _%_, _≤_, _<_}
+use native.Mathlib.Omega.{arith}
+use lib.Dec.{eqb}
+use lib.ListN.{length, getD}
+use lib.Seq.{ext-getD}
+use borrow.Author.Tests.{lt-ltb, le-ltb, eqb-true, ne-eqb}
+use Rattle.words.specs.Small.{is, counting, concatMap, someBelow}
+use Rattle.words.proofs.Bools.{decide}
+use Rattle.cases.specs.declared.Case.{Case}
+use Rattle.cases.specs.Case.{countOf}
+use Rattle.rules.specs.State.{State, valueOf, waiting}
+use Rattle.rules.specs.Result.{registerBytes, registerOf, registers}
+use Rattle.machine.specs.Shown.{optionOf, placeOf}
+use Rattle.machine.proofs.Listing.{blocks-long, block-at}
+
+pub byte-none : (known : Bool) (v j : ℕ) → not known ≡ true → j < 3 → 0 ≡ getD (registerBytes (optionOf known v)) j 0
+byte-none true v j h lt = absurd (false≢true h)
+byte-none false v zero h lt = refl
+byte-none false v (suc zero) h lt = refl
+byte-none false v (suc (suc zero)) h lt = refl
+byte-none false v (suc (suc (suc j))) h lt = absurd (omega arith)
+
+pub byte-some : (known : Bool) (v j : ℕ) → not known ≡ false → getD (registerBytes (some v)) j 0 ≡ getD (registerBytes (optionOf known v)) j 0
+byte-some true v j h = refl
+byte-some false v j h = absurd (false≢true (sym h))
+
+three : (o : Option ℕ) → length (registerBytes o) ≡ 3
+three none = refl
+three (some n) = refl
+
+module _ (c : Case) (s : State) where
+  abbrev row : ℕ → List ℕ
+  row p = concatMap (λ k. registerBytes (registerOf c s p k)) (counting 0 8)
+
+  row-long : (p : ℕ) → length (row p) ≡ 24
+  row-long p = blocks-long (λ k. registerBytes (registerOf c s p k)) 3 (λ k. three (registerOf c s p k)) 0 8
+
+  pub registers-long : length (registers c s) ≡ 96
+  unfolding registers
+  registers-long = blocks-long row 24 row-long 0 4
+
+  pub register-at : (i : ℕ) → i < 96 → getD (registers c s) i 0 ≡ getD (registerBytes (registerOf c s (i / 3 / 8) (i / 3 % 8))) (i % 3) 0
+  unfolding registers
+  register-at i h =
+      let q : i ≡ 24 * (i / 3 / 8) + (3 * (i / 3 % 8) + i % 3) = omega arith in
+      ap (λ (n : ℕ). getD (concatMap row (counting 0 4)) n 0) q
+      ∙ block-at row 24 row-long 0 4 (i / 3 / 8) (3 * (i / 3 % 8) + i % 3) (omega arith) (omega arith)
+      ∙ ap (λ (p : ℕ). getD (row p) (3 * (i / 3 % 8) + i % 3) 0) (omega arith)
+      ∙ block-at (λ k. registerBytes (registerOf c s (i / 3 / 8) k)) 3 (λ k. three (registerOf c s (i / 3 / 8) k)) 0 8 (i / 3 % 8) (i % 3) (omega arith) (omega arith)
+      ∙ ap (λ (k : ℕ). getD (registerBytes (registerOf c s (i / 3 / 8) k)) (i % 3) 0) (omega arith)
+
+  pub registers-are : (out : List ℕ) → length out ≡ 96 → ((j : ℕ) → j < 96 → getD out j 0 ≡ getD (registers c s) j 0) → out ≡ registers c s
+  registers-are out long h = ext-getD 0 out (registers c s) (long ∙ sym registers-long) (λ i lt. h i (omega arith))
+
+  pub register-absent : (p k : ℕ) → c .procs ≤ p → none ≡ registerOf c s p k
+  register-absent p k h = rw (le-ltb p (c .procs) h)
+
+  pub register-present : (p k : ℕ) → p < c .procs → valueOf s (s .names p k) ≡ registerOf c s p k
+  register-present p k h = rw (lt-ltb p (c .procs) h)
+
+-- processor p is done: its queue is empty, its place counter at its count
+abbrev pub ended : Case → State → ℕ → Bool
+ended c s p = not (someBelow (s .count) (λ k. waiting p (s .actions k))) && is (countOf c p) (s .places p)
+
+-- a count that is no counter's mark of being undefined
+pub at-count : (n x : ℕ) → n ≤ 12 → eqb x n ≡ is n (placeOf x)
+at-count n x h = ⊎-elim undefined defined (decide (eqb x 255))
+  where
+    undefined : eqb x 255 ≡ true → eqb x n ≡ is n (placeOf x)
+    undefined k = rw k (ne-eqb x n (λ e. omega (arith, eqb-true x 255 k)))
+
+    defined : eqb x 255 ≡ false → eqb x n ≡ is n (placeOf x)
+    defined k = rw k

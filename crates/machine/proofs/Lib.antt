@@ -1,0 +1,4 @@
+pub mod Entries
+pub mod Listing
+pub mod Answers
+pub mod Starting

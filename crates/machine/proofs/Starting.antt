@@ -1,0 +1,87 @@
+-- The machine of the start shows the initial state. Assumes nothing.
+use mathlib.Core.Path.{_≡_, refl, ap, fun-ext}
+use mathlib.Core.Logic.{inr}
+use mathlib.Core.Bool.{Bool, true, false, cond, _&&_}
+use mathlib.Core.List.{List}
+use mathlib.Core.Option.{none, some}
+use Prim.Native.Nat.{ℕ, zero, suc, _+_, _*_, _-_, _/_, _%_, _≤_, _<_}
+use native.Mathlib.Omega.{arith}
+use native.Mathlib.Decide.{decLt}
+use lib.Dec.{eqb, ltb}
+use lib.ListN.{getD, replicate, length-replicate}
+use borrow.Author.Tests.{lt-ltb, le-ltb, eqb-true}
+use Rattle.words.specs.Small.{counting}
+use Rattle.words.proofs.Sets.{has-zero}
+use Rattle.cases.specs.declared.Case.{Case}
+use Rattle.cases.specs.Case.{presetOf}
+use Rattle.rules.specs.State.{start, unissued, initial}
+use Rattle.rules.proofs.Table.{all-below}
+use Rattle.orders.specs.Rows.{orderOf}
+use Rattle.machine.specs.declared.Entry.{Entry}
+use Rattle.machine.specs.declared.Machine.{Machine}
+use Rattle.machine.specs.Shown.{shown, namesOf, actionsOf}
+use Rattle.machine.specs.Fit.{Fit}
+use Rattle.machine.specs.Valid.{Valid}
+
+abbrev numbers : List ℕ
+numbers = counting 0 32
+
+number-at : (n : ℕ) → n < 32 → getD numbers n 0 ≡ n
+number-at n h = eqb-true (getD numbers n 0) n (all-below (λ k. eqb (getD numbers k 0) k) 32 refl n h)
+
+same-everywhere : (n a i : ℕ) → getD (replicate n a) i a ≡ a
+same-everywhere zero a i = refl
+same-everywhere (suc n) a zero = refl
+same-everywhere (suc n) a (suc i) = same-everywhere n a i
+
+no-order : (l a b : ℕ) → orderOf (replicate 448 0) l a b ≡ false
+unfolding orderOf
+no-order l a b = rw (same-everywhere 448 0 (56 * l + b), has-zero a) (and-no (ltb l 8) (ltb b 56))
+  where
+    and-no : (x y : Bool) → (x && y && false) ≡ false
+    and-no true true = refl
+    and-no true false = refl
+    and-no false y = refl
+
+start-name : (c : Case) (p k : ℕ) → namesOf c numbers p k ≡ start (presetOf c p k)
+start-name c p k = elim (decLt p 4) [ yes h ↦ elim (decLt k 8) [ yes q ↦ inside h q | no q ↦ past h (omega arith) ] | no h ↦ absent (omega arith) ]
+  where
+    inside : p < 4 → k < 8 → namesOf c numbers p k ≡ start (presetOf c p k)
+    inside h q =
+        let u : (8 * p + k) / 8 ≡ p = omega arith in
+        let v : (8 * p + k) % 8 ≡ k = omega arith in
+        rw (lt-ltb p 4 h, lt-ltb k 8 q, number-at (8 * p + k) (omega arith), lt-ltb (8 * p + k) 32 (omega arith), u, v)
+
+    past : p < 4 → 8 ≤ k → namesOf c numbers p k ≡ start (presetOf c p k)
+    past h q = rw (lt-ltb p 4 h, le-ltb k 8 q)
+
+    absent : 4 ≤ p → namesOf c numbers p k ≡ start (presetOf c p k)
+    absent h = rw (le-ltb p 4 h)
+
+no-action : (c : Case) (acts : List Entry) (k : ℕ) → actionsOf c 0 acts k ≡ unissued
+no-action c acts k = rw (le-ltb k 0 (omega arith))
+
+abbrev begun : Entry → Machine
+begun e = record { issued = 0; places = replicate 4 0; names = numbers; holders = replicate 8 0; acts = replicate 48 e; rows = replicate 448 0 }
+
+pub begun-shows : (c : Case) (e : Entry) → shown c (begun e) ≡ initial c
+begun-shows c e =
+    let a = fun-ext (no-action c (replicate 48 e)) in
+    let p = fun-ext (λ (q : ℕ). ap (λ (n : ℕ). cond (eqb n 255) none (some n)) (same-everywhere 4 0 q)) in
+    let n = fun-ext (λ (q : ℕ). fun-ext (start-name c q)) in
+    let h : shown c (begun e) .holders ≡ initial c .holders = fun-ext (λ (l : ℕ). ap (λ (n : ℕ). cond (eqb n 0) none (some (n - 1))) (same-everywhere 8 0 l)) in
+    let o = fun-ext (λ (l : ℕ). fun-ext (λ (a : ℕ). fun-ext (no-order l a))) in
+    λ j. record { count = 0; actions = a j; places = p j; names = n j; holders = h j; orders = o j }
+
+pub begun-valid : (c : Case) (e : Entry) → Fit c → Valid c (begun e)
+begun-valid c e f = record {
+  fit = f;
+  issued = omega arith;
+  acts-long = refl;
+  places-long = refl;
+  names-long = refl;
+  holders-long = refl;
+  rows-long = length-replicate {A = ℕ} 448 0;
+  places = λ p h. inr (omega (arith, same-everywhere 4 0 p));
+  entries = λ k h. absurd (omega arith);
+}

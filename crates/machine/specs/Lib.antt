@@ -1,0 +1,3 @@
+pub mod Shown
+pub mod Fit
+pub mod Valid

@@ -1,0 +1,269 @@
+// The machine in arrays: its actions, order rows and locks; its start, and what its registers and queues hold.
+use cases::Case;
+use cases::Instr;
+ghost use mathlib.Core.Path.{_≡_};
+ghost use mathlib.Core.Bool.{Bool};
+ghost use Prim.Native.Nat.{ℕ, _/_, _%_, _≤_, _<_};
+ghost use lib.ListN.{length, getD};
+ghost use Rattle.cases.specs.declared.Case.{Case as TheCase};
+ghost use Rattle.cases.specs.Case.{presetOf};
+ghost use Rattle.words.specs.Small.{orZero, someBelow};
+ghost use Rattle.rules.specs.State.{State, initial, valueOf, itemValue, waiting};
+ghost use Rattle.rules.specs.Result.{finished as isFinished, registerBytes, registerOf, registers as registersOf};
+ghost use Rattle.machine.specs.Shown.{nameOf, shownValue, shownEntry, blankEntry, shown, Acts};
+ghost use Rattle.machine.specs.Fit.{Fit};
+ghost use Rattle.machine.specs.Valid.{Valid};
+
+// An action: its processor and place, the names of the registers that it reads, its location, and its result once it is done.
+pub struct Entry {
+    pub instr: Instr,
+    pub proc: u8,
+    pub place: u8,
+    pub first: u8,
+    pub second: u8,
+    pub loc: u8,
+    pub done: bool,
+    pub result: u16,
+}
+
+// Register k of processor p has its name at 8p + k; row b of location l stands at 56l + b.
+pub struct Machine {
+    pub issued: usize,
+    pub places: [u8; 4],
+    pub names: [u8; 32],
+    pub holders: [u8; 8],
+    pub acts: [Entry; 48],
+    pub rows: [u64; 448],
+}
+
+// A value, where it is known.
+pub struct Value {
+    pub known: bool,
+    pub value: u16,
+}
+
+// The value of a register, 0 where it is undefined.
+pub fn or_zero(v: Value) -> u16
+    ensures { λ r. ⌜ r ≡ orZero (shownValue v) ⌝ }
+{
+    if v.known {
+        return v.value;
+    }
+    0
+}
+
+// What action k gives.
+pub fn value_at(acts: [Entry; 48], issued: usize, k: usize) -> Value
+    requires { ⌜ (issued ≤ 48) × (length acts ≡ 48) ⌝ }
+    ensures { λ r. ⌜ ((c : TheCase) (s : State) → Acts c issued acts s → shownValue r ≡ s .actions k .result) ⌝ }
+{
+    if k < issued {
+        let e = acts[k];
+        return Value {
+            known: e.done,
+            value: e.result,
+        };
+    }
+    Value {
+        known: false,
+        value: 0,
+    }
+}
+
+// What register n, counted over all processors, starts with.
+pub fn preset_of(c: Case, n: usize) -> Value
+    requires { ⌜ n < 32 ⌝ }
+    ensures { λ r. ⌜ shownValue r ≡ presetOf c (n / 8) (n % 8) ⌝ }
+{
+    let mask = c.masks[n / 8] as u64;
+    let known = words::has(mask, n % 8);
+    Value {
+        known,
+        value: c.presets[n],
+    }
+}
+
+// The value that a name stands for.
+pub fn named(c: Case, acts: [Entry; 48], issued: usize, name: u8) -> Value
+    requires { ⌜ (issued ≤ 48) × (length acts ≡ 48) ⌝ }
+    ensures { λ r. ⌜ ((s : State) → Acts c issued acts s → shownValue r ≡ valueOf s (nameOf c name)) ⌝ }
+{
+    let n = words::wide(name);
+    if n < 32 {
+        return preset_of(c, n);
+    }
+    value_at(acts, issued, n - 32)
+}
+
+// The value of an item.
+pub fn item_value(c: Case, acts: [Entry; 48], issued: usize, e: usize) -> Value
+    requires { ⌜ (issued ≤ 48) × (length acts ≡ 48) ⌝ }
+    ensures { λ r. ⌜ ((s : State) → Acts c issued acts s → shownValue r ≡ itemValue c s e) ⌝ }
+{
+    if e < 8 {
+        return Value {
+            known: true,
+            value: c.memory[e],
+        };
+    }
+    value_at(acts, issued, e - 8)
+}
+
+// Whether an entry is in the queue of processor p.
+pub fn queued(e: Entry, p: usize) -> bool
+    ensures { λ r. ⌜ ((c : TheCase) → r ≡ waiting p (shownEntry c e)) ⌝ }
+{
+    let proc = words::wide(e.proc);
+    (proc == p) & !e.done
+}
+
+// Whether processor p has a queued action.
+pub fn busy(acts: [Entry; 48], issued: usize, p: usize) -> bool
+    requires { ⌜ (issued ≤ 48) × (length acts ≡ 48) ⌝ }
+    ensures { λ r. ⌜ ((c : TheCase) (s : State) → Acts c issued acts s → r ≡ someBelow (s .count) (λ k. waiting p (s .actions k))) ⌝ }
+{
+    let mut found = false;
+    let mut k: usize = 0;
+    while k < issued {
+        let e = acts[k];
+        let w = queued(e, p);
+        found = w | found;
+        k += 1;
+    }
+    found
+}
+
+// Whether every queue is empty and every place counter at its processor's count.
+pub fn finished(c: Case, m: Machine) -> bool
+    requires { ⌜ Valid c m ⌝ }
+    ensures { λ r. ⌜ r ≡ isFinished c (shown c m) ⌝ }
+{
+    let acts = m.acts;
+    let issued = m.issued;
+    let top = words::wide(c.procs);
+    let mut all = true;
+    let mut p: usize = 0;
+    while p < top {
+        let b = busy(acts, issued, p);
+        let there = m.places[p] == c.counts[p];
+        all = all & (!b & there);
+        p += 1;
+    }
+    all
+}
+
+// What register n, counted over all processors, holds; that of an absent processor nothing.
+pub fn register(c: Case, names: &[u8; 32], acts: [Entry; 48], issued: usize, n: usize) -> Value
+    requires { ⌜ (issued ≤ 48) × (length acts ≡ 48) × (n < 32) ⌝ }
+    ensures { λ r. ⌜ ((s : State) → Acts c issued acts s → s .names (n / 8) (n % 8) ≡ nameOf c (getD (now (names .entry)) n 0) → shownValue r ≡ registerOf c s (n / 8) (n % 8)) ⌝ }
+{
+    if words::wide(c.procs) <= n / 8 {
+        return Value {
+            known: false,
+            value: 0,
+        };
+    }
+    named(c, acts, issued, names[n])
+}
+
+// Byte j of the three of a register.
+pub fn byte_of(v: Value, j: usize) -> u8
+    requires { ⌜ j < 3 ⌝ }
+    ensures { λ r. ⌜ r ≡ getD (registerBytes (shownValue v)) j 0 ⌝ }
+{
+    if !v.known {
+        return 0;
+    }
+    if j == 0 {
+        return 1;
+    }
+    if j == 1 {
+        return (v.value / 256) as u8;
+    }
+    (v.value % 256) as u8
+}
+
+// The 96 bytes of registers.
+pub fn registers(c: Case, m: Machine) -> [u8; 96]
+    requires { ⌜ Valid c m ⌝ }
+    ensures { λ r. ⌜ r ≡ registersOf c (shown c m) ⌝ }
+{
+    let acts = m.acts;
+    let issued = m.issued;
+    let mut out = [0u8; 96];
+    let mut i: usize = 0;
+    while i < 96 {
+        let v = register(c, &m.names, acts, issued, i / 3);
+        out[i] = byte_of(v, i % 3);
+        i += 1;
+    }
+    out
+}
+
+// The entry of no action.
+pub fn blank() -> Entry
+    ensures { λ r. ⌜ r ≡ blankEntry ⌝ }
+{
+    Entry {
+        instr: Instr::Empty,
+        proc: 0,
+        place: 0,
+        first: 0,
+        second: 0,
+        loc: 0,
+        done: false,
+        result: 0,
+    }
+}
+
+// The name of each register at the start: its own number.
+pub const FIRST: [u8; 32] = [
+    0,
+    1,
+    2,
+    3,
+    4,
+    5,
+    6,
+    7,
+    8,
+    9,
+    10,
+    11,
+    12,
+    13,
+    14,
+    15,
+    16,
+    17,
+    18,
+    19,
+    20,
+    21,
+    22,
+    23,
+    24,
+    25,
+    26,
+    27,
+    28,
+    29,
+    30,
+    31,
+];
+
+// The machine before the first step.
+pub fn start(c: Case) -> Machine
+    requires { ⌜ Fit c ⌝ }
+    ensures { λ r. ⌜ (shown c r ≡ initial c) × Valid c r ⌝ }
+{
+    let e = blank();
+    Machine {
+        issued: 0,
+        places: [0; 4],
+        names: FIRST,
+        holders: [0; 8],
+        acts: [e; 48],
+        rows: [0; 448],
+    }
+}

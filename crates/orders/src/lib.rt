@@ -1,0 +1,103 @@
+// The orders of the locations, as rows of sets of items.
+ghost use mathlib.Core.Path.{_≡_};
+ghost use mathlib.Core.Bool.{Bool, _&&_};
+ghost use Prim.Native.Nat.{ℕ, _+_, _≤_, _<_};
+ghost use lib.ListN.{length};
+ghost use Rattle.words.specs.Sets.{has as inSet};
+ghost use Rattle.rules.specs.Order.{upTo};
+ghost use Rattle.orders.specs.Rows.{orderOf, joinedRow, SetOf, Reaches, JoinedTo, Joined};
+
+// Whether item a stands before item b in the order of location l.
+pub fn before(rows: &[u64; 448], l: usize, a: usize, b: usize) -> bool
+    requires { ⌜ l < 8 ⌝ }
+    ensures { λ r. ⌜ r ≡ orderOf (now (rows .entry)) l a b ⌝ }
+{
+    if 56 <= b {
+        return false;
+    }
+    let row = rows[56 * l + b];
+    words::has(row, a)
+}
+
+// Item e and what stands before it.
+pub fn up_to(rows: &[u64; 448], l: usize, e: usize) -> u64
+    requires { ⌜ (l < 8) × (e < 56) ⌝ }
+    ensures { λ r. ⌜ ((a : ℕ) → inSet r a ≡ upTo (orderOf (now (rows .entry)) l) a e) ⌝ }
+{
+    let row = rows[56 * l + e];
+    words::one(e) | row
+}
+
+// Row b once the mask is put before item i.
+pub fn joined_row(row: u64, b: usize, i: usize, mask: u64) -> u64
+    ensures { λ r. ⌜ r ≡ joinedRow row b i mask ⌝ }
+{
+    if b == i {
+        return row | mask;
+    }
+    if words::has(row, i) {
+        return row | mask;
+    }
+    row
+}
+
+// Puts the mask before item i of location l and before every item after it.
+pub fn spread(rows: &mut [u64; 448], l: usize, i: usize, mask: u64)
+    requires { ⌜ (l < 8) × (length (now rows) ≡ 448) ⌝ }
+    ensures { λ _. ⌜ (length (now (rows .exit)) ≡ 448) × JoinedTo (now (rows .entry)) (now (rows .exit)) l i mask 56 ⌝ }
+{
+    let mut b: usize = 0;
+    while b < 56 {
+        let row = rows[56 * l + b];
+        let new = joined_row(row, b, i, mask);
+        rows[56 * l + b] = new;
+        b += 1;
+    }
+}
+
+// The set of numbers below n, with n where the test passes.
+pub fn with(x: u64, n: usize, test: bool) -> u64
+    requires { ⌜ n < 64 ⌝ }
+    ensures { λ r. ⌜ ((P : ℕ → Bool) → SetOf n P x → test ≡ P n → SetOf (n + 1) P r) ⌝ }
+{
+    if test {
+        return words::one(n) | x;
+    }
+    x
+}
+
+// Item e and what stands before it, where the test passes, else nothing.
+pub fn up_to_if(rows: &[u64; 448], l: usize, e: usize, test: bool) -> u64
+    requires { ⌜ (l < 8) × (e < 56) ⌝ }
+    ensures { λ r. ⌜ ((a : ℕ) → inSet r a ≡ (test && upTo (orderOf (now (rows .entry)) l) a e)) ⌝ }
+{
+    if test {
+        return up_to(rows, l, e);
+    }
+    0
+}
+
+// The items of a set, all below n, and what stands before one of them in the order of location l.
+pub fn reach(rows: &[u64; 448], l: usize, items: u64, n: usize) -> u64
+    requires { ⌜ (l < 8) × (n ≤ 56) ⌝ }
+    ensures { λ r. ⌜ ((P : ℕ → Bool) → SetOf n P items → Reaches (orderOf (now (rows .entry)) l) n P r) ⌝ }
+{
+    let mut mask: u64 = 0;
+    let mut e: usize = 0;
+    while e < n {
+        let test = words::has(items, e);
+        let more = up_to_if(rows, l, e, test);
+        mask = more | mask;
+        e += 1;
+    }
+    mask
+}
+
+// Puts item i of location l after the items of a set, all below n, and closes the order.
+pub fn join(rows: &mut [u64; 448], l: usize, i: usize, items: u64, n: usize)
+    requires { ⌜ (l < 8) × (i < 56) × (n ≤ 56) × (length (now rows) ≡ 448) ⌝ }
+    ensures { λ _. ⌜ Joined (now (rows .entry)) (now (rows .exit)) l i items n ⌝ }
+{
+    let mask = reach(rows, l, items, n);
+    spread(rows, l, i, mask);
+}
