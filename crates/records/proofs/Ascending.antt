@@ -8,7 +8,7 @@ use lib.ListN.{length}
 use Rattle.words.specs.Small.{all}
 use Rattle.words.proofs.Bools.{and-both, and-make, all-make, all-at}
 use Rattle.runs.specs.Listing.{below, ascending}
-use Rattle.records.proofs.Order.{below-irrefl, below-trans}
+use Rattle.runs.proofs.ByteOrder.{below-irrefl, below-trans}
 
 -- r put between xs and ys
 module _ (x r : List ℕ) (xs ys : List (List ℕ)) where
@@ -61,26 +61,3 @@ no-longer (x ∷ xs) (y ∷ ys) a b f = suc-le-suc (no-longer xs ys (rest-ascend
 
     later : (w : List ℕ) → List·Memᴰ w xs → List·Memᴰ w ys
     later w m = ⊎-elim (λ e. absurd (not-first w m e)) (λ n. n) (List·Memᴰ·cases-cons (f w (List·Memᴰ·tail m)))
-
--- ascending lists with the same members are equal
-abbrev Within : List (List ℕ) → List (List ℕ) → Type 0
-Within xs ys = (x : List ℕ) → List·Memᴰ x xs → List·Memᴰ x ys
-
-module _ (x y : List ℕ) (xs ys : List (List ℕ)) (a : ascending (x ∷ xs) ≡ true) (b : ascending (y ∷ ys) ≡ true) where
-  same-first : Within (x ∷ xs) (y ∷ ys) → Within (y ∷ ys) (x ∷ xs) → x ≡ y
-  same-first f g = ⊎-elim (λ e. e) (λ m. ⊎-elim sym (λ n. absurd (both m n)) (List·Memᴰ·cases-cons (g y (List·Memᴰ·head refl)))) (List·Memᴰ·cases-cons (f x (List·Memᴰ·head refl)))
-    where
-      both : List·Memᴰ x ys → List·Memᴰ y xs → ⊥
-      both m n = below-irrefl x (below-trans x y x (first-below x xs a y n) (first-below y ys b x m))
-
-  within-rest : x ≡ y → Within (x ∷ xs) (y ∷ ys) → Within xs ys
-  within-rest e f w m = ⊎-elim (λ q. absurd (below-irrefl w (subst (λ (v : List ℕ). below v w ≡ true) (e ∙ sym q) (first-below x xs a w m)))) (λ n. n) (List·Memᴰ·cases-cons (f w (List·Memᴰ·tail m)))
-
-pub same-members : (xs ys : List (List ℕ)) → ascending xs ≡ true → ascending ys ≡ true → Within xs ys → Within ys xs → xs ≡ ys
-same-members [] [] a b f g = refl
-same-members [] (y ∷ ys) a b f g = absurd (List·Memᴰ·not-nil (g y (List·Memᴰ·head refl)))
-same-members (x ∷ xs) [] a b f g = absurd (List·Memᴰ·not-nil (f x (List·Memᴰ·head refl)))
-same-members (x ∷ xs) (y ∷ ys) a b f g =
-    let e = same-first x y xs ys a b f g in
-    let t = same-members xs ys (rest-ascends x xs a) (rest-ascends y ys b) (within-rest x y xs ys a b e f) (within-rest y x ys xs b a (sym e) g) in
-    λ i. e i ∷ t i

@@ -10,7 +10,7 @@ use Rattle.words.specs.Small.{concatMap}
 use Rattle.words.proofs.Bools.{decide, bool-eq}
 use Rattle.records.specs.Buffer.{recordsIn, Among, Held}
 use Rattle.records.specs.Insertion.{Insertion}
-use Rattle.records.proofs.Ascending.{same-members}
+use Rattle.runs.proofs.Unique.{same-members}
 use Rattle.records.proofs.Buffer.{records-length, held-bytes}
 use Rattle.records.proofs.Growth.{iff-trans, iff-sym}
 

@@ -13,7 +13,8 @@ use Rattle.words.proofs.Bools.{fails}
 use Rattle.runs.specs.Listing.{below}
 use Rattle.records.specs.Buffer.{recordAt, Among, Held}
 use Rattle.records.specs.Insertion.{Place}
-use Rattle.records.proofs.Order.{below-irrefl, below-self, below-trans, below-total}
+use Rattle.runs.proofs.ByteOrder.{below-irrefl, below-trans, below-total}
+use Rattle.records.proofs.Order.{below-self}
 use Rattle.records.proofs.Buffer.{among-at, place-of, ordered}
 
 -- of n records those before low are below r, and those from high on are not

@@ -13,7 +13,7 @@ use Rattle.runs.specs.Listing.{below, ascending}
 use Rattle.records.specs.Buffer.{recordAt, recordsIn, Among, Held}
 use Rattle.records.specs.Growth.{Joined}
 use Rattle.records.specs.Insertion.{Place, Insertion}
-use Rattle.records.proofs.Order.{below-total}
+use Rattle.runs.proofs.ByteOrder.{below-total}
 use Rattle.records.proofs.Ascending.{members-put, ascending-put}
 use Rattle.records.proofs.Buffer.{
   records-length,
