@@ -12,12 +12,12 @@ use lib.Seq.{take-suc, take-length}
 use borrow.Author.Tests.{lt-ltb, le-ltb, le-leb, lt-leb, eqb-true, eqb-false, ltb-true, ltb-false, eq-eqb, ne-eqb, not-false}
 use Rattle.words.specs.Small.{each, concatMap, someBelow}
 use Rattle.words.specs.Refusals.{_when_, firstOf}
-use Rattle.words.proofs.Bools.{decide, and-both, and-make, or-none, or-left, or-right, below-make, cond-true, cond-false}
+use Rattle.words.proofs.Bools.{decide, and-both, and-make, and-rest, or-none, or-left, or-right, below-make, cond-true, cond-false}
 use Rattle.words.proofs.First.{first-none, not-yes}
 use Rattle.words.proofs.Lists.{each-is, each-more, concatMap-append}
 use Rattle.cases.specs.declared.Instr.{Instr}
 use Rattle.cases.specs.Instruction.{two, instrOf, instrBytes, fieldAt, badField}
-use Rattle.cases.specs.Block.{within, procAt, numberAt, byteAt, byte, word, marked, used, bad3, badByte, bad6, bad7, faults, slotAt, caseOf, contents}
+use Rattle.cases.specs.Block.{within, procAt, numberAt, byteAt, byte, word, marked, used, bad3, bad4, badByte, bad6, bad7, faults, slotAt, caseOf, contents}
 use Rattle.cases.specs.Formed.{Bytes}
 use Rattle.cases.proofs.Fields.{op-byte, field-byte}
 use Rattle.cases.proofs.Puts.{slotBytes}
@@ -28,13 +28,10 @@ use Rattle.cases.proofs.Slots.{two-of, bytes-back}
 none-below : (n : ℕ) (f : ℕ → Bool) → someBelow n f ≡ false → (k : ℕ) → k < n → f k ≡ false
 none-below n f h k b = ⊎-elim (λ e. absurd (false≢true (sym h ∙ below-make n f k b e))) (λ e. e) (decide (f k))
 
-and-rest : (a b : Bool) → (a && b) ≡ false → a ≡ true → b ≡ false
-and-rest true b h e = h
-and-rest false b h e = absurd (false≢true e)
-
 -- no position is bad for a code
 pub record Clean (s : List ℕ) : Type 0 where
   pub third : (i : ℕ) → i < 510 → bad3 s i ≡ false
+  pub fourth : (i : ℕ) → i < 510 → bad4 s i ≡ false
   pub sixth : (i : ℕ) → i < 510 → bad6 s i ≡ false
   pub seventh : (i : ℕ) → i < 510 → bad7 s i ≡ false
 
@@ -45,7 +42,75 @@ clean s h =
     let c = first-none 4 _ _ (b .1) in
     let d = first-none 5 _ _ (c .1) in
     let e = first-none 6 _ _ (d .1) in
-    record { third = none-below 510 (bad3 s) (a .0); sixth = none-below 510 (bad6 s) (d .0); seventh = none-below 510 (bad7 s) (e .0) }
+    record { third = none-below 510 (bad3 s) (a .0); fourth = none-below 510 (bad4 s) (b .0); sixth = none-below 510 (bad6 s) (d .0); seventh = none-below 510 (bad7 s) (e .0) }
+
+-- the slots of a block that is sound
+module _ (s : List ℕ) (ok : Clean s) where
+  module _ (m : ℕ) (h : m < 48) where
+    abbrev pub at : ℕ → ℕ
+    at j = 92 + 6 * m + j
+
+    -- where byte j of slot m stands
+    place : (j : ℕ) → j < 6 → (procAt (at j) ≡ m / 12) × (numberAt (at j) ≡ m % 12) × (byteAt (at j) ≡ j)
+    place j b = (omega arith, omega arith, omega arith)
+
+    inside : (j : ℕ) → j < 6 → within 92 380 (at j) ≡ true
+    inside j b = and-make (leb 92 (at j)) (ltb (at j) 380) (le-leb 92 (at j) (omega arith)) (lt-ltb (at j) 380 (omega arith))
+
+    used-at : (j : ℕ) → j < 6 → used s (procAt (at j)) (numberAt (at j)) ≡ used s (m / 12) (m % 12)
+    used-at j b = let p = place j b in λ t. used s (p .0 t) (p .1 t)
+
+    -- unused: every byte is zero
+
+    pub unused-zero : used s (m / 12) (m % 12) ≡ false → (j : ℕ) → j < 6 → byte s (at j) ≡ 0
+    unfolding bad7
+    unused-zero u j b =
+        let free = or-left (within 92 380 (at j) && not (used s (procAt (at j)) (numberAt (at j)))) (within 380 510 (at j)) (and-make (within 92 380 (at j)) (not (used s (procAt (at j)) (numberAt (at j)))) (inside j b) (not-yes _ (used-at j b ∙ u))) in
+        eqb-true (byte s (at j)) 0 (not-false _ (and-rest _ (marked s (at j)) (ok .seventh (at j) (omega arith)) free))
+
+    -- used: no byte is bad
+
+    used-good : used s (m / 12) (m % 12) ≡ true → (j : ℕ) → j < 6 → badByte s (byte s (at 0)) (byte s (4 + m / 12)) (at j) ≡ false
+    unfolding bad6
+    used-good u j b =
+        let q : at j - byteAt (at j) ≡ at 0 = omega arith in
+        let p = place j b .0 in
+        (λ t. badByte s (byte s (sym q t)) (byte s (4 + sym p t)) (at j))
+        ∙ and-rest (within 92 380 (at j) && used s (procAt (at j)) (numberAt (at j))) _ (ok .sixth (at j) (omega arith)) (and-make (within 92 380 (at j)) (used s (procAt (at j)) (numberAt (at j))) (inside j b) (used-at j b ∙ u))
+
+    pub used-op : used s (m / 12) (m % 12) ≡ true → (0 < byte s (at 0)) × (byte s (at 0) < 11)
+    used-op u =
+        let n = byte s (4 + m / 12) in
+        let o = or-none (eqb (byte s (at 0)) 0) (ltb 10 (byte s (at 0))) (op-byte s (byte s (at 0)) n (at 0) (omega arith) ∙ used-good u 0 (lit< tt)) in
+        (omega (arith, eqb-false (byte s (at 0)) 0 (o .0)), omega (arith, ltb-false 10 (byte s (at 0)) (o .1)))
+
+    used-field : used s (m / 12) (m % 12) ≡ true → (k : ℕ) → k < 5 → badField (fieldAt (byte s (at 0)) k) (byte s (4 + m / 12)) (byte s (at (suc k))) (word s (at (suc k))) ≡ false
+    used-field u k b =
+        let op = byte s (at 0) in
+        let n = byte s (4 + m / 12) in
+        let q : (at (suc k) - 92) % 6 - 1 ≡ k = omega arith in
+        ap (λ (j : ℕ). badField (fieldAt op j) n (byte s (at (suc k))) (word s (at (suc k)))) (sym q)
+        ∙ field-byte s op n (at (suc k)) (λ z. absurd (omega arith))
+        ∙ used-good u (suc k) (omega arith)
+
+    pub used-fields : used s (m / 12) (m % 12) ≡ true → (k : ℕ) → k < 5 → badField (fieldAt (byte s (at 0)) k) (byte s (4 + m / 12)) (getD (byte s (at 1) ∷ byte s (at 2) ∷ byte s (at 3) ∷ byte s (at 4) ∷ byte s (at 5) ∷ []) k 0) (word s (at (suc k))) ≡ false
+    used-fields u zero b = used-field u 0 b
+    used-fields u (suc zero) b = used-field u 1 b
+    used-fields u (suc (suc zero)) b = used-field u 2 b
+    used-fields u (suc (suc (suc zero))) b = used-field u 3 b
+    used-fields u (suc (suc (suc (suc zero)))) b = used-field u 4 b
+    used-fields u (suc (suc (suc (suc (suc k))))) b = absurd (omega arith)
+
+    -- the instruction in the slot has the slot's bytes
+
+    abbrev pub held : Instr
+    held = instrOf (byte s (at 0)) (byte s (at 1)) (byte s (at 2)) (byte s (at 3)) (byte s (at 4) + 256 * byte s (at 5))
+
+    pub held-is : slotAt s m .instr ≡ held
+    held-is =
+        let p : 92 + 6 * m ≡ at 0 = omega arith in
+        let q : 92 + 6 * m + 4 + 1 ≡ at 5 = omega arith in
+        λ t. instrOf (byte s (p t)) (byte s (at 1)) (byte s (at 2)) (byte s (at 3)) (byte s (at 4) + 256 * byte s (q t))
 
 -- parts of a list, taken from the front on
 
@@ -88,80 +153,15 @@ module _ (s : List ℕ) (long : length s ≡ 512) (bytes : Bytes s) (ok : Clean 
   -- the instructions
 
   module _ (m : ℕ) (h : m < 48) where
-    abbrev at : ℕ → ℕ
-    at j = 92 + 6 * m + j
-
-    -- where byte j of slot m stands
-    place : (j : ℕ) → j < 6 → (procAt (at j) ≡ m / 12) × (numberAt (at j) ≡ m % 12) × (byteAt (at j) ≡ j)
-    place j b = (omega arith, omega arith, omega arith)
-
-    inside : (j : ℕ) → j < 6 → within 92 380 (at j) ≡ true
-    inside j b = and-make (leb 92 (at j)) (ltb (at j) 380) (le-leb 92 (at j) (omega arith)) (lt-ltb (at j) 380 (omega arith))
-
-    used-at : (j : ℕ) → j < 6 → used s (procAt (at j)) (numberAt (at j)) ≡ used s (m / 12) (m % 12)
-    used-at j b = let p = place j b in λ t. used s (p .0 t) (p .1 t)
-
-    -- unused: every byte is zero
-
-    unused-zero : used s (m / 12) (m % 12) ≡ false → (j : ℕ) → j < 6 → byte s (at j) ≡ 0
-    unfolding bad7
-    unused-zero u j b =
-        let free = or-left (within 92 380 (at j) && not (used s (procAt (at j)) (numberAt (at j)))) (within 380 510 (at j)) (and-make (within 92 380 (at j)) (not (used s (procAt (at j)) (numberAt (at j)))) (inside j b) (not-yes _ (used-at j b ∙ u))) in
-        eqb-true (byte s (at j)) 0 (not-false _ (and-rest _ (marked s (at j)) (ok .seventh (at j) (omega arith)) free))
-
-    -- used: no byte is bad
-
-    used-good : used s (m / 12) (m % 12) ≡ true → (j : ℕ) → j < 6 → badByte s (byte s (at 0)) (byte s (4 + m / 12)) (at j) ≡ false
-    unfolding bad6
-    used-good u j b =
-        let q : at j - byteAt (at j) ≡ at 0 = omega arith in
-        let p = place j b .0 in
-        (λ t. badByte s (byte s (sym q t)) (byte s (4 + sym p t)) (at j))
-        ∙ and-rest (within 92 380 (at j) && used s (procAt (at j)) (numberAt (at j))) _ (ok .sixth (at j) (omega arith)) (and-make (within 92 380 (at j)) (used s (procAt (at j)) (numberAt (at j))) (inside j b) (used-at j b ∙ u))
-
-    used-op : used s (m / 12) (m % 12) ≡ true → (0 < byte s (at 0)) × (byte s (at 0) < 11)
-    used-op u =
-        let n = byte s (4 + m / 12) in
-        let o = or-none (eqb (byte s (at 0)) 0) (ltb 10 (byte s (at 0))) (op-byte s (byte s (at 0)) n (at 0) (omega arith) ∙ used-good u 0 (lit< tt)) in
-        (omega (arith, eqb-false (byte s (at 0)) 0 (o .0)), omega (arith, ltb-false 10 (byte s (at 0)) (o .1)))
-
-    used-field : used s (m / 12) (m % 12) ≡ true → (k : ℕ) → k < 5 → badField (fieldAt (byte s (at 0)) k) (byte s (4 + m / 12)) (byte s (at (suc k))) (word s (at (suc k))) ≡ false
-    used-field u k b =
-        let op = byte s (at 0) in
-        let n = byte s (4 + m / 12) in
-        let q : (at (suc k) - 92) % 6 - 1 ≡ k = omega arith in
-        ap (λ (j : ℕ). badField (fieldAt op j) n (byte s (at (suc k))) (word s (at (suc k)))) (sym q)
-        ∙ field-byte s op n (at (suc k)) (λ z. absurd (omega arith))
-        ∙ used-good u (suc k) (omega arith)
-
-    used-fields : used s (m / 12) (m % 12) ≡ true → (k : ℕ) → k < 5 → badField (fieldAt (byte s (at 0)) k) (byte s (4 + m / 12)) (getD (byte s (at 1) ∷ byte s (at 2) ∷ byte s (at 3) ∷ byte s (at 4) ∷ byte s (at 5) ∷ []) k 0) (word s (at (suc k))) ≡ false
-    used-fields u zero b = used-field u 0 b
-    used-fields u (suc zero) b = used-field u 1 b
-    used-fields u (suc (suc zero)) b = used-field u 2 b
-    used-fields u (suc (suc (suc zero))) b = used-field u 3 b
-    used-fields u (suc (suc (suc (suc zero)))) b = used-field u 4 b
-    used-fields u (suc (suc (suc (suc (suc k))))) b = absurd (omega arith)
-
-    -- the instruction in the slot has the slot's bytes
-
-    abbrev held : Instr
-    held = instrOf (byte s (at 0)) (byte s (at 1)) (byte s (at 2)) (byte s (at 3)) (byte s (at 4) + 256 * byte s (at 5))
-
-    held-is : slotAt s m .instr ≡ held
-    held-is =
-        let p : 92 + 6 * m ≡ at 0 = omega arith in
-        let q : 92 + 6 * m + 4 + 1 ≡ at 5 = omega arith in
-        λ t. instrOf (byte s (p t)) (byte s (at 1)) (byte s (at 2)) (byte s (at 3)) (byte s (at 4) + 256 * byte s (q t))
-
-    slot-bytes : instrBytes (slotAt s m .instr) ≡ each 6 (λ j. byte s (at j))
-    slot-bytes = ap instrBytes held-is ∙ ⊎-elim whole empty (decide (used s (m / 12) (m % 12)))
+    slot-bytes : instrBytes (slotAt s m .instr) ≡ each 6 (λ j. byte s (at s ok m h j))
+    slot-bytes = ap instrBytes (held-is s ok m h) ∙ ⊎-elim whole empty (decide (used s (m / 12) (m % 12)))
       where
-        whole : used s (m / 12) (m % 12) ≡ true → instrBytes held ≡ each 6 (λ j. byte s (at j))
-        whole u = bytes-back (byte s (4 + m / 12)) (byte s (at 1)) (byte s (at 2)) (byte s (at 3)) (byte s (at 4)) (byte s (at 5)) (λ k. word s (at (suc k))) (bytes .each (at 4)) (byte s (at 0)) (used-op u .0) (used-op u .1) (used-fields u)
+        whole : used s (m / 12) (m % 12) ≡ true → instrBytes (held s ok m h) ≡ each 6 (λ j. byte s (at s ok m h j))
+        whole u = bytes-back (byte s (4 + m / 12)) (byte s (at s ok m h 1)) (byte s (at s ok m h 2)) (byte s (at s ok m h 3)) (byte s (at s ok m h 4)) (byte s (at s ok m h 5)) (λ k. word s (at s ok m h (suc k))) (bytes .each (at s ok m h 4)) (byte s (at s ok m h 0)) (used-op s ok m h u .0) (used-op s ok m h u .1) (used-fields s ok m h u)
 
-        empty : used s (m / 12) (m % 12) ≡ false → instrBytes held ≡ each 6 (λ j. byte s (at j))
+        empty : used s (m / 12) (m % 12) ≡ false → instrBytes (held s ok m h) ≡ each 6 (λ j. byte s (at s ok m h j))
         empty u =
-            let z = unused-zero u in
+            let z = unused-zero s ok m h u in
             (λ t. instrBytes (instrOf (z 0 (lit< tt) t) (z 1 (lit< tt) t) (z 2 (lit< tt) t) (z 3 (lit< tt) t) (z 4 (lit< tt) t + 256 * z 5 (lit< tt) t)))
             ∙ sym (λ t. z 0 (lit< tt) t ∷ z 1 (lit< tt) t ∷ z 2 (lit< tt) t ∷ z 3 (lit< tt) t ∷ z 4 (lit< tt) t ∷ z 5 (lit< tt) t ∷ [])
 
