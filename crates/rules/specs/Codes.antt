@@ -6,7 +6,8 @@ use Rattle.cases.specs.declared.Instr.{Instr}
 use Rattle.cases.specs.declared.Instr.the-variants.{Read, Write, Branch, Goto, Acquire, Release}
 use Rattle.cases.specs.declared.Case.{Case}
 use Rattle.rules.specs.Step.{Step, issue, commit, stepOf}
-use Rattle.rules.specs.Claims.{Claim, replays, plain, alone}
+use Rattle.rules.specs.Building.{plain, alone}
+use Rattle.rules.specs.Claims.{Claim, replays}
 
 -- Processor 0 can issue for ever, processor 1 has these instructions.
 abbrev pub beside : List Instr → Case
