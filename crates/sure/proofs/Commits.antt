@@ -5,7 +5,7 @@ use mathlib.Core.Bool.{Bool, true, false, not, cond, _&&_, false≢true}
 use mathlib.Core.Option.{Option, none, some}
 use Prim.Native.Nat.{ℕ, suc, _+_, _-_}
 use lib.Dec.{eqb, ltb}
-use borrow.Author.Tests.{eqb-true, ne-eqb}
+use borrow.Author.Tests.{ne-eqb}
 use Rattle.words.specs.Small.{someBelow, put, is}
 use Rattle.words.proofs.Bools.{put-swap, or-left, below-same, put-other, or-right, and-right, decide, or-none}
 use Rattle.cases.specs.declared.Instr.the-variants.{Empty, Read, Write, Local, Branch, Goto, Acquire, Release}
@@ -18,7 +18,7 @@ use Rattle.rules.specs.Order.{joinedIf, Order}
 use Rattle.rules.proofs.Closed.{Transitive}
 use Rattle.rules.proofs.Orders.{joinedIf-false, joinedIf-swap}
 use Rattle.rules.proofs.Accepted.{between, visible-make, Visible}
-use Rattle.sure.proofs.Kept.{Kept, kept-commit, waits-none, input-same, item-kept, carry, settled-same}
+use Rattle.sure.proofs.Kept.{committed-field, Kept, kept-commit, waits-none, input-same, item-kept, carry, settled-same}
 use Rattle.sure.proofs.Commit.{self, releases, committedBy, sees-take, Commit, input, settledBy, CanTake, resultBy, item}
 
 -- only an acquire and a release ask who holds a location
@@ -47,12 +47,7 @@ holdersBy a p x f = cond (syncs (kindOf a)) (put f x (cond (acquiring (kindOf a)
 
 -- a test of items that the commit does not change
 pub item-test : (c : Case) (s : State) (t : Commit) (b : Bool) (f : Action → Bool) → f (settledBy c s t) ≡ f (self s t) → (e : ℕ) → itemIs b f (committedBy c s t) e ≡ itemIs b f s e
-unfolding committed
-item-test c s t b f h e = ap (λ (x : Bool). cond (ltb e 8) b x) (step (eqb (e - 8) (t .action)) refl)
-  where
-    step : (q : Bool) → eqb (e - 8) (t .action) ≡ q → f (cond q (settledBy c s t) (s .actions (e - 8))) ≡ f (s .actions (e - 8))
-    step true q = h ∙ ap (λ (k : ℕ). f (s .actions k)) (sym (eqb-true _ _ q))
-    step false q = refl
+item-test c s t b f h e = ap (λ (x : Bool). cond (ltb e 8) b x) (committed-field c s t f h (e - 8))
 
 release-result : (c : Case) (s : State) (t : Commit) (i : Instr) → releasing (kind i) ≡ true → resultBy c s t i ≡ input s t 0
 release-result c s t Empty h = absurd (false≢true h)

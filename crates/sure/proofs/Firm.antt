@@ -18,7 +18,7 @@ use Rattle.rules.specs.Issue.{newAction, issued, earlier}
 use Rattle.rules.specs.Order.{joinedIf, Order}
 use Rattle.rules.proofs.Closed.{UpTo, Via, joined-cases}
 use Rattle.rules.proofs.Accepted.{after-issue, after-commit, can-commit, between, Visible, visible-make, neither-no}
-use Rattle.sure.proofs.Kept.{Kept, kept-commit, waits-none, waits-proc, item-kept, carry}
+use Rattle.sure.proofs.Kept.{issued-new, issued-old, committed-field, Kept, kept-commit, waits-none, waits-proc, item-kept, carry}
 use Rattle.sure.proofs.Good.{Good}
 use Rattle.sure.proofs.Issues.{item-high}
 use Rattle.sure.proofs.Commits.{item-test, unbarred}
@@ -48,18 +48,10 @@ joinedIf-cases false R i n P a b h = inl h
 
 module _ (c : Case) (s : State) (G : Good s) (F : Firm s) where
   module _ (p : ℕ) where
-    pub old : (k : ℕ) → k < s .count → issued c s p .actions k ≡ s .actions k
-    unfolding issued
-    old k h = put-other (s .actions) (s .count) k (newAction c s p) (λ e. omega arith)
-
-    fresh : issued c s p .actions (s .count) ≡ newAction c s p
-    unfolding issued
-    fresh = put-same (s .actions) (s .count) (s .count) (newAction c s p) refl
-
     behind-old : (k b : ℕ) → k < s .count → b < 8 + s .count → Behind s k b → Behind (issued c s p) k b
     behind-old k b h g B =
         let j : B .number < s .count = omega (arith, B .isItem) in
-        record { number = B .number; isItem = B .isItem; above = B .above; mine = ap (λ (a : Action). a .proc) (old (B .number) j) ∙ B .mine ∙ ap (λ (a : Action). a .proc) (sym (old k h)) }
+        record { number = B .number; isItem = B .isItem; above = B .above; mine = ap (λ (a : Action). a .proc) (issued-old c s p (B .number) j) ∙ B .mine ∙ ap (λ (a : Action). a .proc) (sym (issued-old c s p k h)) }
 
     -- an earlier item of the processor
     earlier-proc : (l j : ℕ) → earlier c s p l (8 + j) ≡ true → s .actions j .proc ≡ p
@@ -70,7 +62,7 @@ module _ (c : Case) (s : State) (G : Good s) (F : Firm s) where
     behind-issue l k b h w = ⊎-elim before via (joinedIf-cases (ltb l (c .locs) && standsAt l (newAction c s p)) (s .orders l) (8 + s .count) (8 + s .count) (earlier c s p l) (8 + k) b h)
       where
         idle : k < s .count → s .actions k .result ≡ none
-        idle g = ap (λ (a : Action). a .result) (sym (old k g)) ∙ w
+        idle g = ap (λ (a : Action). a .result) (sym (issued-old c s p k g)) ∙ w
 
         before : s .orders l (8 + k) b ≡ true → Behind (issued c s p) k b
         before e =
@@ -79,7 +71,7 @@ module _ (c : Case) (s : State) (G : Good s) (F : Firm s) where
             behind-old k b g (q .1) (F .behind l k b e (idle g))
 
         new : b ≡ 8 + s .count → k < s .count → s .actions k .proc ≡ p → Behind (issued c s p) k b
-        new e g m = record { number = s .count; isItem = e; above = g; mine = ap (λ (a : Action). a .proc) fresh ∙ sym m ∙ ap (λ (a : Action). a .proc) (sym (old k g)) }
+        new e g m = record { number = s .count; isItem = e; above = g; mine = ap (λ (a : Action). a .proc) (issued-new c s p) ∙ sym m ∙ ap (λ (a : Action). a .proc) (sym (issued-old c s p k g)) }
 
         via : Via (s .orders l) (8 + s .count) (8 + s .count) (earlier c s p l) (8 + k) b → Behind (issued c s p) k b
         via v = down (v .down)
@@ -99,8 +91,8 @@ module _ (c : Case) (s : State) (G : Good s) (F : Firm s) where
     unfolding issued
     drained-issue j k x y l m z =
         let g : j < s .count = low (decide (ltb j (s .count))) in
-        let a = old j g in
-        let b = old k (omega arith) in
+        let a = issued-old c s p j g in
+        let b = issued-old c s p k (omega arith) in
         F .drained j k (ap (λ (a : Action). releasing (kindOf a)) (sym a) ∙ x) (ap (λ (a : Action). isNone (a .result)) (sym a) ∙ y) l (ap (λ (a : Action). a .proc) (sym b) ∙ m ∙ ap (λ (a : Action). a .proc) a) (ap (λ (a : Action). a .result) (sym b) ∙ z)
       where
         unset : s .count ≤ j → isNone (issued c s p .actions j .result) ≡ true
@@ -149,12 +141,7 @@ module _ (c : Case) (s : State) (G : Good s) (F : Firm s) where
         step false e x = (eqb-false _ _ e, x)
 
     same-proc : (k : ℕ) → committedBy c s u .actions k .proc ≡ s .actions k .proc
-    unfolding committed
-    same-proc k = step (eqb k (u .action)) refl
-      where
-        step : (b : Bool) → eqb k (u .action) ≡ b → cond b (settledBy c s u) (s .actions k) .proc ≡ s .actions k .proc
-        step true e = ap (λ (i : ℕ). s .actions i .proc) (sym (eqb-true _ _ e))
-        step false e = refl
+    same-proc = committed-field c s u (λ a. a .proc) refl
 
     drained-commit : (j k : ℕ) → releasing (kindOf (committedBy c s u .actions j)) ≡ true → isNone (committedBy c s u .actions j .result) ≡ false → k < j → committedBy c s u .actions k .proc ≡ committedBy c s u .actions j .proc → committedBy c s u .actions k .result ≡ none → ⊥
     unfolding committed

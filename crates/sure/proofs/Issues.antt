@@ -10,7 +10,7 @@ use lib.Dec.{eqb, ltb, leb}
 use lib.ListN.{getD}
 use borrow.Author.Tests.{le-ltb, ltb-false, eqb-true, eqb-false}
 use Rattle.words.specs.Small.{is, someBelow, put, orZero, isNone}
-use Rattle.words.proofs.Bools.{below-cases, decide, put-same, and-make, below-make, put-swap, put-other, and-both, cond-false, fails}
+use Rattle.words.proofs.Bools.{below-cases, decide, and-make, below-make, put-swap, put-other, and-both, cond-false, fails}
 use Rattle.cases.specs.Case.{instrAt, wordOf, countOf}
 use Rattle.cases.specs.declared.Instr.{Instr}
 use Rattle.cases.specs.declared.Case.{Case}
@@ -21,7 +21,7 @@ use Rattle.rules.specs.Issue.{address, earlier, issued, here, next, placeAfter,
 use Rattle.rules.specs.Order.{joinedIf}
 use Rattle.rules.proofs.Orders.{joinedIf-old, joinedIf-swap, joinedIf-ext}
 use Rattle.rules.proofs.Accepted.{visible-make, CanIssue, Visible, between}
-use Rattle.sure.proofs.Kept.{Kept, kept-commit, kept-issue, waits-none, waits-proc, input-same, item-kept, carry, settled-same}
+use Rattle.sure.proofs.Kept.{issued-new, Kept, kept-commit, kept-issue, waits-none, waits-proc, input-same, item-kept, carry, settled-same}
 use Rattle.sure.proofs.Commits.{cond-put-swap, placesBy, holdersBy, item-test}
 use Rattle.sure.proofs.Good.{Good}
 use Rattle.sure.proofs.Commit.{settledBy, sees-take, self, CanTake, Commit, item, releases, input, committedBy}
@@ -78,10 +78,6 @@ and-false false = refl
 -- the item of action k
 pub item-high : (b : Bool) (f : Action → Bool) (s : State) (k e : ℕ) → e ≡ 8 + k → itemIs b f s e ≡ f (s .actions k)
 item-high b f s k e h = cond-false (ltb e 8) b _ (le-ltb e 8 (omega arith)) ∙ ap (λ (j : ℕ). f (s .actions j)) (omega arith)
-
-pub new-at : (c : Case) (s : State) (p : ℕ) → issued c s p .actions (s .count) ≡ newAction c s p
-unfolding issued
-new-at c s p = put-same (s .actions) (s .count) (s .count) (newAction c s p) refl
 
 -- a test of items that the issue does not change
 pub item-old : (c : Case) (s : State) (p : ℕ) (b : Bool) (f : Action → Bool) (e : ℕ) → (e ≡ 8 + s .count → ⊥) → itemIs b f (issued c s p) e ≡ itemIs b f s e
@@ -197,7 +193,7 @@ module _ (c : Case) (s : State) (p : ℕ) (u : Commit) (G : Good s) (I : CanIssu
       here-it : eqb e (8 + s .count) ≡ true → releases (issued c s p) m e ≡ releases s m e
       here-it q =
           item-high false (λ a. releasing (kindOf a) && is m (a .result)) (issued c s p) (s .count) e (eqb-true _ _ q)
-          ∙ ap (λ (a : Action). releasing (kindOf a) && is m (a .result)) (new-at c s p)
+          ∙ ap (λ (a : Action). releasing (kindOf a) && is m (a .result)) (issued-new c s p)
           ∙ and-false (releasing (kind (next c s p)))
           ∙ sym (and-false (releasing (kindOf (s .actions (s .count)))))
           ∙ ap (λ (o : Option ℕ). releasing (kindOf (s .actions (s .count))) && is m o) (sym fresh)

@@ -1,25 +1,26 @@
 -- Two issues in either order: the new actions get each other's number. Assumes nothing.
 use mathlib.Core.Path.{_≡_, refl, sym, _∙_, ap, ap₂, subst, fun-ext}
 use mathlib.Core.Logic.{⊎-elim}
-use mathlib.Core.Bool.{Bool, true, false, cond, _&&_, false≢true}
+use mathlib.Core.Bool.{Bool, true, false, cond, _&&_}
 use mathlib.Core.List.{List, [], _∷_, map}
 use mathlib.Core.Option.{Option, none, some}
 use Prim.Native.Nat.{ℕ, suc, _+_, _<_}
 use native.Mathlib.Omega.{arith}
 use lib.Dec.{eqb, ltb, leb}
 use borrow.Author.Tests.{eqb-true, eqb-false}
-use Rattle.words.specs.Small.{isNone, put, orZero}
+use Rattle.words.specs.Small.{put, orZero}
 use Rattle.words.proofs.Bools.{put-same, put-other, and-both, decide, put-swap}
 use Rattle.cases.specs.declared.Instr.{Instr}
 use Rattle.cases.specs.declared.Case.{Case}
 use Rattle.rules.specs.Kinds.{assigns, reads}
-use Rattle.rules.specs.State.{given, Action, valueOf, State, start, standsAt, Name}
+use Rattle.rules.specs.State.{given, Action, State, start, standsAt, Name}
 use Rattle.rules.specs.Issue.{newAction, placeAfter, renamed, issued, earlier, here, next}
 use Rattle.rules.specs.Order.{joinedIf, Order}
 use Rattle.rules.proofs.Orders.{joinedIf-swap, joinedIf-ext}
 use Rattle.rules.proofs.Accepted.{CanIssue}
+use Rattle.sure.proofs.Kept.{values-put, issued-new}
 use Rattle.sure.proofs.Good.{Good, Below, AllBelow, all-map}
-use Rattle.sure.proofs.Issues.{Stays, next-same, carry-issue, new-same, item-high, new-at, item-old}
+use Rattle.sure.proofs.Issues.{Stays, next-same, carry-issue, new-same, item-high, item-old}
 use Rattle.sure.proofs.Swap.{swap, View, up, down, stay, view, swap-small, swap-at, swap-next, swapOrder, swapOrder-low, joinedIf-swapped}
 use Rattle.sure.proofs.Renumber.{swapName, swapAction, swapped}
 
@@ -50,12 +51,8 @@ module _ (c : Case) (s : State) (p q : ℕ) (G : Good s) (I : CanIssue c s p) (J
   stays = record {
     places = put-other (s .places) p q _ (λ e. d (sym e));
     names = put-other (s .names) p q _ (λ e. d (sym e));
-    values = values;
+    values = values-put s (issued c s p) (s .count) (newAction c s p) refl (G .fresh (s .count) (omega arith));
   }
-    where
-      values : (n : Name) → isNone (valueOf s n) ≡ false → valueOf (issued c s p) n ≡ valueOf s n
-      values (start v) e = refl
-      values (given j) e = ⊎-elim (λ x. absurd (false≢true (sym e ∙ ap isNone (ap (λ (i : ℕ). s .actions i .result) (eqb-true _ _ x) ∙ G .fresh (s .count) (omega arith))))) (λ x. ap (λ (a : Action). a .result) (put-other (s .actions) (s .count) j (newAction c s p) (eqb-false _ _ x))) (decide (eqb j (s .count)))
 
   pub issue-issue : leb 48 (suc (s .count)) ≡ false → CanIssue c (issued c s p) q
   unfolding issued
@@ -70,7 +67,7 @@ module _ (c : Case) (s : State) (p q : ℕ) (G : Good s) (I : CanIssue c s p) (J
 
   pub at-first : issued c (issued c s p) q .actions (s .count) ≡ newAction c s p
   unfolding issued
-  at-first = put-other (issued c s p .actions) (suc (s .count)) (s .count) (newAction c (issued c s p) q) (λ e. omega arith) ∙ new-at c s p
+  at-first = put-other (issued c s p .actions) (suc (s .count)) (s .count) (newAction c (issued c s p) q) (λ e. omega arith) ∙ issued-new c s p
 
   at-old : (k : ℕ) → (k ≡ s .count → ⊥) → (k ≡ suc (s .count) → ⊥) → issued c (issued c s p) q .actions k ≡ s .actions k
   unfolding issued
@@ -95,7 +92,7 @@ module _ (c : Case) (s : State) (p q : ℕ) (G : Good s) (I : CanIssue c s p) (J
       f a = eqb (a .proc) q && standsAt l a
 
       mine : e ≡ 8 + s .count → ⊥
-      mine x = d (eqb-true p q (and-both (eqb p q) (standsAt l (newAction c s p)) (ap f (sym (new-at c s p)) ∙ sym (item-high (eqb e l) f (issued c s p) (s .count) e x) ∙ r) .0))
+      mine x = d (eqb-true p q (and-both (eqb p q) (standsAt l (newAction c s p)) (ap f (sym (issued-new c s p)) ∙ sym (item-high (eqb e l) f (issued c s p) (s .count) e x) ∙ r) .0))
 
   -- the order after both
   orders-after : (l : ℕ) → issued c (issued c s p) q .orders l ≡ joinedIf (ltb l (c .locs) && standsAt l (newAction c s q)) (joinedIf (ltb l (c .locs) && standsAt l (newAction c s p)) (s .orders l) (8 + s .count) (8 + s .count) (earlier c s p l)) (8 + suc (s .count)) (8 + s .count) (earlier c s q l)

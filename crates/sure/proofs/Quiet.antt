@@ -2,14 +2,14 @@
 use mathlib.Core.Path.{_≡_, refl, sym, _∙_, ap, ap₂, subst, fun-ext}
 use mathlib.Core.Logic.{_⊎_, inl, inr, ⊎-elim, _↔_}
 use mathlib.Core.Bool.{Bool, true, false, not, cond, _&&_, false≢true}
-use mathlib.Core.List.{List, [], _∷_}
+use mathlib.Core.List.{List}
 use mathlib.Core.Option.{Option, none, some}
 use Prim.Native.Nat.{ℕ, zero, suc, _+_, _-_, _<_}
 use native.Mathlib.Omega.{arith}
 use lib.Dec.{eqb, ltb}
 use borrow.Author.Tests.{leb-false, eqb-true, eqb-false, eq-eqb, not-true}
 use Rattle.words.specs.Small.{isNone, is, orZero, put, any}
-use Rattle.words.proofs.Bools.{fails, below-same, and-make, put-other, decide, put-swap, or-none, below-make, all-at, cond-false, put-same, below-fewer, and-right, and-both}
+use Rattle.words.proofs.Bools.{fails, below-same, and-make, put-other, decide, put-swap, below-make, all-at, cond-false, below-fewer, and-right, and-both}
 use Rattle.cases.specs.Case.{countOf, wordOf}
 use Rattle.cases.specs.declared.Instr.the-variants.{Empty, Read, Write, Local, Branch, Goto, Acquire, Release}
 use Rattle.cases.specs.declared.Instr.{Instr}
@@ -19,7 +19,7 @@ use Rattle.runs.proofs.Walk.{walk}
 use Rattle.rules.specs.Kinds.{reading, labelOf, acquiring, branching, syncs, releasing, kind, writing}
 use Rattle.rules.specs.Commit.{committed, visible, writes, heldBack}
 use Rattle.rules.specs.Result.{finished}
-use Rattle.rules.specs.State.{Action, valueOf, itemValue, State, itemIs, Name, given, waiting, kindOf, start, initial}
+use Rattle.rules.specs.State.{Action, valueOf, itemValue, State, itemIs, waiting, kindOf, initial}
 use Rattle.rules.specs.Step.{after, commit, issue, neither, stepCode, Step}
 use Rattle.rules.specs.Womm.{womm}
 use Rattle.rules.specs.Order.{joinedIf}
@@ -27,7 +27,7 @@ use Rattle.rules.proofs.Closed.{joined-keeps}
 use Rattle.rules.proofs.Orders.{joinedIf-false}
 use Rattle.rules.proofs.Accepted.{still, after-commit, Visible, can-issue, visible-make, can-commit, neither-no, counting-mem, finished-still, between}
 use Rattle.sure.specs.Quiet.{ended, pending, quiet}
-use Rattle.sure.proofs.Kept.{Kept, kept-commit, waits-none, waits-proc, not-waiting, input-same, item-kept, carry, settled-same}
+use Rattle.sure.proofs.Kept.{holds-kept, ready-kept, queue-put, values-put, Kept, kept-commit, waits-none, waits-proc, input-same, item-kept, carry, settled-same}
 use Rattle.sure.proofs.Good.{good, good-initial, Good, good-step}
 use Rattle.sure.proofs.Commits.{unbarred, placesBy, holdersBy, item-test}
 use Rattle.sure.proofs.Reduce.{Done, Open, done-from, done-to, open-from, open-to}
@@ -88,13 +88,9 @@ module _ (c : Case) (s : State) (p k : ℕ) where
         there = omega (arith, P .there, K .more);
         waits = rw (K .same) (P .waits);
         reads = rw (K .same) (P .reads);
-        free = below-fewer k (holds s (the p k 0)) (holds s′ (the p k 0)) (λ j l e. rw (← K .queue p j l (and-both _ _ e .0), ← K .same) e) (P .free);
-        ready = rw (K .same) (still-ready (s .actions k .inputs) (P .ready));
+        free = below-fewer k (holds s (the p k 0)) (holds s′ (the p k 0)) (holds-kept s s′ (the p k 0) K) (P .free);
+        ready = rw (K .same) (ready-kept s s′ k K (s .actions k .inputs) (P .ready));
       }
-    where
-      still-ready : (l : List Name) → any (λ n. isNone (valueOf s n)) l ≡ false → any (λ n. isNone (valueOf s′ n)) l ≡ false
-      still-ready [] e = refl
-      still-ready (n ∷ l) e = let w = or-none (isNone (valueOf s n)) (any (λ m. isNone (valueOf s m)) l) e in rw (K .values n (w .0), w .0) (still-ready l (w .1))
 
 -- a value for action k, a read in the queue, hinders no other commit
 module _ (c : Case) (s : State) (k v : ℕ) (w : s .actions k .result ≡ none) (r : reading (kindOf (s .actions k)) ≡ true) where
@@ -113,13 +109,9 @@ module _ (c : Case) (s : State) (k v : ℕ) (w : s .actions k .result ≡ none) 
         record {
           more = omega arith;
           same = put-other (s .actions) k (u .action) (valued v (s .actions k)) d;
-          values = values;
-          queue = λ p j l x. ⊎-elim (λ e. absurd (not-waiting p (valued v (s .actions k)) v refl (subst (λ (a : Action). waiting p a ≡ true) (put-same (s .actions) k j (valued v (s .actions k)) (eqb-true _ _ e)) x))) (λ e. put-other (s .actions) k j (valued v (s .actions k)) (eqb-false _ _ e)) (decide (eqb j k));
+          values = values-put s (forced k v s) k (valued v (s .actions k)) refl w;
+          queue = λ p j l. queue-put (s .actions) k (valued v (s .actions k)) v refl p j;
         }
-      where
-        values : (n : Name) → isNone (valueOf s n) ≡ false → valueOf (forced k v s) n ≡ valueOf s n
-        values (start x) e = refl
-        values (given j) e = ⊎-elim (λ q. absurd (false≢true (sym e ∙ ap isNone (ap (λ (i : ℕ). s .actions i .result) (eqb-true _ _ q) ∙ w)))) (λ q. ap (λ (a : Action). a .result) (put-other (s .actions) k j (valued v (s .actions k)) (eqb-false _ _ q))) (decide (eqb j k))
 
     writes-same : (l e : ℕ) → writes (forced k v s) l e ≡ writes s l e
     writes-same l e = forced-test (eqb e l) (λ a. writing (kindOf a) && eqb (a .loc) l) refl e

@@ -8,9 +8,9 @@ use Prim.Native.Nat.{ℕ, zero, suc, _+_, _-_, _<_}
 use native.Mathlib.Omega.{arith}
 use lib.Dec.{eqb, ltb, leb}
 use lib.ListN.{getD}
-use borrow.Author.Tests.{ltb-true, le-ltb, ltb-false, eqb-true}
+use borrow.Author.Tests.{ltb-true, le-ltb, ltb-false}
 use Rattle.words.specs.Small.{someBelow, isNone, is, put, counting, concatMap, orZero, all, any}
-use Rattle.words.proofs.Bools.{cond-false, below-cases, decide, fails, cond-true, and-both, below-make, put-other}
+use Rattle.words.proofs.Bools.{cond-false, below-cases, decide, fails, cond-true, and-both, below-make}
 use Rattle.cases.specs.Case.{wordOf, countOf}
 use Rattle.cases.specs.declared.Instr.the-variants.{Empty, Read, Write, Local, Branch, Goto, Acquire, Release}
 use Rattle.cases.specs.declared.Instr.{Instr}
@@ -23,7 +23,7 @@ use Rattle.rules.specs.Step.{neither, commit, stepCode, after, issue, Step}
 use Rattle.rules.specs.Issue.{earlier, address, next, placeAfter, renamed, here, issued, bound, newAction}
 use Rattle.rules.specs.Order.{joinedIf}
 use Rattle.rules.proofs.Accepted.{between, neither-no, can-issue, CanIssue, issue-ok, after-issue}
-use Rattle.sure.proofs.Kept.{waits-proc}
+use Rattle.sure.proofs.Kept.{issued-old, committed-field, waits-proc}
 use Rattle.sure.proofs.Commits.{placesBy, holdersBy}
 use Rattle.sure.proofs.Reduce.{Done, Open}
 use Rattle.sure.proofs.Swap.{swap, swap-twice, swap-low, swap-high, swap-small, swap-eqb, swap-item, swap-before, below-swap, put-swapped, swapOrder, joinedIf-swapped}
@@ -279,21 +279,14 @@ module _ (n : ℕ) (s : State) where
 -- the pair stays
 pair-issue : (n : ℕ) (c : Case) (s : State) (p : ℕ) → Pair n s → Pair n (issued c s p)
 unfolding issued
-pair-issue n c s p h = record { there = omega (arith, h .there); differ = λ e. h .differ (ap (λ (a : Action). a .proc) (sym (old n (omega (arith, h .there)))) ∙ e ∙ ap (λ (a : Action). a .proc) (old (suc n) (omega (arith, h .there)))) }
+pair-issue n c s p h = record { there = omega (arith, h .there); differ = λ e. h .differ (sym (old n (omega (arith, h .there))) ∙ e ∙ old (suc n) (omega (arith, h .there))) }
   where
-    old : (k : ℕ) → k < s .count → put (s .actions) (s .count) (newAction c s p) k ≡ s .actions k
-    old k l = put-other (s .actions) (s .count) k (newAction c s p) (λ e. omega arith)
+    old : (k : ℕ) → k < s .count → issued c s p .actions k .proc ≡ s .actions k .proc
+    old k l = ap (λ (a : Action). a .proc) (issued-old c s p k l)
 
 pair-commit : (n : ℕ) (c : Case) (s : State) (t : Commit) → Pair n s → Pair n (committedBy c s t)
 unfolding committed
-pair-commit n c s t h = record { there = h .there; differ = λ e. h .differ (sym (old n) ∙ e ∙ old (suc n)) }
-  where
-    old : (k : ℕ) → put (s .actions) (t .action) (settledBy c s t) k .proc ≡ s .actions k .proc
-    old k = step (eqb k (t .action)) refl
-      where
-        step : (b : Bool) → eqb k (t .action) ≡ b → cond b (settledBy c s t) (s .actions k) .proc ≡ s .actions k .proc
-        step true e = ap (λ (j : ℕ). s .actions j .proc) (sym (eqb-true _ _ e))
-        step false e = refl
+pair-commit n c s t h = let old = committed-field c s t (λ a. a .proc) refl in record { there = h .there; differ = λ e. h .differ (sym (old n) ∙ e ∙ old (suc n)) }
 
 -- a step and its image
 pub record Image (n : ℕ) (c : Case) (s : State) (t : Step) : Type 0 where

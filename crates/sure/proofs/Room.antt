@@ -20,9 +20,9 @@ use Rattle.rules.specs.Step.{Step, commit, after, issue, neither, stepCode}
 use Rattle.rules.specs.Issue.{placeAfter, newAction, here, issued, next}
 use Rattle.rules.proofs.Accepted.{can-issue, neither-no, CanIssue, after-commit, can-commit, after-issue}
 use Rattle.sure.specs.Sure.{jumping, forward, backward, Sized}
-use Rattle.sure.proofs.Kept.{waits-none, waits-proc}
+use Rattle.sure.proofs.Kept.{issued-new, issued-old, committed-field, waits-none, waits-proc}
 use Rattle.sure.proofs.Good.{Good, Turning, turning-issue, none-here, turning-commit}
-use Rattle.sure.proofs.Commit.{committedBy, the, Commit, input, settledBy, self, CanTake}
+use Rattle.sure.proofs.Commit.{committedBy, the, Commit, input, self, CanTake}
 
 -- of these sizes, and every label is greater than its own place
 pub record Forward (c : Case) : Type 0 where
@@ -99,17 +99,9 @@ module _ (c : Case) (F : Forward c) (s : State) (G : Good s) (N : Counted s) whe
           step false false x y = omega (arith, N .most r)
 
   module _ (p : ℕ) (lp : p < 4) (I : CanIssue c s p) where
-    old : (k : ℕ) → k < s .count → issued c s p .actions k ≡ s .actions k
-    unfolding issued
-    old k l = put-other (s .actions) (s .count) k (newAction c s p) (λ e. omega arith)
-
-    latest : issued c s p .actions (s .count) ≡ newAction c s p
-    unfolding issued
-    latest = put-same (s .actions) (s .count) (s .count) (newAction c s p) refl
-
     used-issue : (q : ℕ) → used (issued c s p .actions) (suc (s .count)) q ≡ one p q + used (s .actions) (s .count) q
     unfolding used
-    used-issue q = ap₂ (λ (a : Action) (x : ℕ). one (a .proc) q + x) latest (used-same (issued c s p .actions) (s .actions) (s .count) q (λ k l. ap (λ (a : Action). a .proc) (old k l)))
+    used-issue q = ap₂ (λ (a : Action) (x : ℕ). one (a .proc) q + x) (issued-new c s p) (used-same (issued c s p .actions) (s .actions) (s .count) q (λ k l. ap (λ (a : Action). a .proc) (issued-old c s p k l)))
 
     used-mine : used (issued c s p .actions) (suc (s .count)) p ≡ suc (used (s .actions) (s .count) p)
     used-mine = omega (arith, used-issue p, cond-true {A = ℕ} (eqb p p) 1 0 (eq-eqb p p refl))
@@ -119,7 +111,7 @@ module _ (c : Case) (F : Forward c) (s : State) (G : Good s) (N : Counted s) whe
 
     -- the new action, or an old one
     split : (P : Action → Type 0) → P (newAction c s p) → (k : ℕ) → k < suc (s .count) → (k < s .count → P (s .actions k)) → P (issued c s p .actions k)
-    split P new k l h = ⊎-elim (λ e. subst (λ (j : ℕ). P (issued c s p .actions j)) (sym (eqb-true k (s .count) e)) (subst P (sym latest) new)) (λ e. let m : k < s .count = omega (arith, eqb-false k (s .count) e) in subst P (sym (old k m)) (h m)) (decide (eqb k (s .count)))
+    split P new k l h = ⊎-elim (λ e. subst (λ (j : ℕ). P (issued c s p .actions j)) (sym (eqb-true k (s .count) e)) (subst P (sym (issued-new c s p)) new)) (λ e. let m : k < s .count = omega (arith, eqb-false k (s .count) e) in subst P (sym (issued-old c s p k m)) (h m)) (decide (eqb k (s .count)))
 
     pub counted-issue : Counted (issued c s p)
     unfolding issued
@@ -139,22 +131,14 @@ module _ (c : Case) (F : Forward c) (s : State) (G : Good s) (N : Counted s) whe
         placed-mine q i x e = omega (arith, ap (used (issued c s p .actions) (suc (s .count))) x, used-mine, inside p I .0, place-ahead (next c s p) (here c s p) i jumps (sym (put-same (s .places) p q (placeAfter (next c s p) (here c s p)) x) ∙ e))
 
         turned-new : (q k : ℕ) → k ≡ s .count → q ≡ p → used (issued c s p .actions) (suc (s .count)) q ≤ suc (issued c s p .actions k .place)
-        turned-new q k x y = omega (arith, ap (used (issued c s p .actions) (suc (s .count))) y, used-mine, inside p I .0, ap (λ (a : Action). a .place) (ap (issued c s p .actions) x ∙ latest))
+        turned-new q k x y = omega (arith, ap (used (issued c s p .actions) (suc (s .count))) y, used-mine, inside p I .0, ap (λ (a : Action). a .place) (ap (issued c s p .actions) x ∙ (issued-new c s p)))
 
         turned-old : (q k : ℕ) → Turning s q k → used (issued c s p .actions) (suc (s .count)) q ≤ suc (issued c s p .actions k .place)
-        turned-old q k v = omega (arith, used-other q (λ e. none-here c s G p I k (subst (λ (x : ℕ). Turning s x k) e v)), N .turned q k v, ap (λ (a : Action). a .place) (old k (v .there)))
+        turned-old q k v = omega (arith, used-other q (λ e. none-here c s G p I k (subst (λ (x : ℕ). Turning s x k) e v)), N .turned q k v, ap (λ (a : Action). a .place) (issued-old c s p k (v .there)))
 
   module _ (t : Commit) (T : CanTake c s t) where
-    like : {X : Type 0} (f : Action → X) → f (settledBy c s t) ≡ f (self s t) → (k : ℕ) → f (committedBy c s t .actions k) ≡ f (s .actions k)
-    unfolding committed
-    like f h k = step (eqb k (t .action)) refl
-      where
-        step : (b : Bool) → eqb k (t .action) ≡ b → f (cond b (settledBy c s t) (s .actions k)) ≡ f (s .actions k)
-        step true e = h ∙ ap (λ (j : ℕ). f (s .actions j)) (sym (eqb-true _ _ e))
-        step false e = refl
-
     used-commit : (q : ℕ) → used (committedBy c s t .actions) (s .count) q ≡ used (s .actions) (s .count) q
-    used-commit q = used-same (committedBy c s t .actions) (s .actions) (s .count) q (λ k l. like (λ a. a .proc) refl k)
+    used-commit q = used-same (committedBy c s t .actions) (s .actions) (s .count) q (λ k l. committed-field c s t (λ a. a .proc) refl k)
 
     placed-commit : (q i : ℕ) → committedBy c s t .places q ≡ some i → used (s .actions) (s .count) q ≤ i
     unfolding committed
@@ -178,10 +162,10 @@ module _ (c : Case) (F : Forward c) (s : State) (G : Good s) (N : Counted s) whe
     unfolding committed
     counted-commit =
         record {
-          procs = λ k l. subst (λ (x : ℕ). x < 4) (sym (like (λ a. a .proc) refl k)) (N .procs k l);
+          procs = λ k l. subst (λ (x : ℕ). x < 4) (sym (committed-field c s t (λ a. a .proc) refl k)) (N .procs k l);
           placed = λ q i e. subst (λ (n : ℕ). n ≤ i) (sym (used-commit q)) (placed-commit q i e);
-          turned = λ q k w. omega (arith, used-commit q, N .turned q k (turning-commit c s G t T q k w .1), like (λ a. a .place) refl k);
-          ahead = λ k l b. omega (arith, N .ahead k l (sym (like (λ a. branching (kindOf a)) refl k) ∙ b), like (λ a. a .place) refl k, like (λ a. labelOf (a .instr)) refl k);
+          turned = λ q k w. omega (arith, used-commit q, N .turned q k (turning-commit c s G t T q k w .1), committed-field c s t (λ a. a .place) refl k);
+          ahead = λ k l b. omega (arith, N .ahead k l (sym (committed-field c s t (λ a. branching (kindOf a)) refl k) ∙ b), committed-field c s t (λ a. a .place) refl k, committed-field c s t (λ a. labelOf (a .instr)) refl k);
           most = λ q. subst (λ (n : ℕ). n ≤ 12) (sym (used-commit q)) (N .most q);
         }
 

@@ -2,12 +2,12 @@
 -- location, an issue with all but its processor's next, while there is room. Assumes nothing.
 use mathlib.Core.Path.{_≡_, refl, sym, _∙_, subst, ap}
 use mathlib.Core.Logic.{⊎-elim}
-use mathlib.Core.Bool.{Bool, true, false, cond, false≢true}
+use mathlib.Core.Bool.{true, false, false≢true}
 use mathlib.Core.Option.{none}
 use Prim.Native.Nat.{ℕ, zero, suc, _<_}
 use native.Mathlib.Omega.{arith}
 use lib.Dec.{eqb, leb}
-use borrow.Author.Tests.{eqb-true, eqb-false, eq-eqb}
+use borrow.Author.Tests.{eqb-false, eq-eqb}
 use Rattle.words.proofs.Bools.{decide, or-none, and-make, put-other, or-cases}
 use Rattle.cases.specs.declared.Case.{Case}
 use Rattle.rules.specs.Kinds.{reading, branching, releasing, writing, acquiring}
@@ -17,12 +17,12 @@ use Rattle.rules.specs.Step.{issue, after, stepCode, commit, neither, Step}
 use Rattle.rules.specs.Issue.{issued}
 use Rattle.rules.proofs.Accepted.{can-commit, can-issue, CanIssue, after-issue, issue-ok, neither-no}
 use Rattle.sure.specs.Spent.{Spent, wakes, asleep, restable, rivals, taking, Key, issuing, stepBy, restful}
-use Rattle.sure.proofs.Kept.{waits-none, waits-proc}
+use Rattle.sure.proofs.Kept.{issued-old, committed-field, waits-none, waits-proc}
 use Rattle.sure.proofs.Good.{Good}
 use Rattle.sure.proofs.Commits.{Apart, turned, can-after, unread-after, commits-meet, acquires-meet}
 use Rattle.sure.proofs.Issues.{issue-after, commit-after, issue-meets}
 use Rattle.sure.proofs.Sure.{SureCommit}
-use Rattle.sure.proofs.Firm.{Firm, old, was-queued, past-acquire}
+use Rattle.sure.proofs.Firm.{Firm, was-queued, past-acquire}
 use Rattle.sure.proofs.Whole.{Alike, count-two, count-after}
 use Rattle.sure.proofs.Renumber.{Pair}
 use Rattle.sure.proofs.Pairs.{issue-issue, at-first, at-second, issues-meet}
@@ -213,7 +213,7 @@ module _ (c : Case) (s : State) (G : Good s) (F : Firm s) where
   before : (u : Step) → stepCode c s u ≡ 0 → (k : ℕ) → k < s .count → after c s u .actions k .result ≡ none → Before c s u k
   unfolding committed
   before (issue q) g k l w =
-      let e = ap (λ (x : State). x .actions k) (after-issue c s q) ∙ old c s G F q k l in
+      let e = ap (λ (x : State). x .actions k) (after-issue c s q) ∙ issued-old c s q k l in
       record { idle = ap (λ (a : Action). a .result) (sym e) ∙ w; other = tt; same = e }
   before (commit q j f) g k l w =
       let u = the q j f in
@@ -223,12 +223,8 @@ module _ (c : Case) (s : State) (G : Good s) (F : Firm s) where
 
   kind-same : (u : Step) → (k : ℕ) → k < s .count → restable (kindOf (after c s u .actions k)) ≡ restable (kindOf (s .actions k))
   unfolding committed after
-  kind-same (issue q) k l = ap (λ (a : Action). restable (kindOf a)) (old c s G F q k l)
-  kind-same (commit q j f) k l = step (eqb k j) refl
-    where
-      step : (b : Bool) → eqb k j ≡ b → restable (kindOf (cond b (settledBy c s (the q j f)) (s .actions k))) ≡ restable (kindOf (s .actions k))
-      step true e = ap (λ (i : ℕ). restable (kindOf (s .actions i))) (sym (eqb-true _ _ e))
-      step false e = refl
+  kind-same (issue q) k l = ap (λ (a : Action). restable (kindOf a)) (issued-old c s q k l)
+  kind-same (commit q j f) k l = committed-field c s (the q j f) (λ a. restable (kindOf a)) refl k
   kind-same neither k l = refl
 
   module _ (u : Step) (g : stepCode c s u ≡ 0) where
