@@ -18,7 +18,8 @@ use Rattle.sure.specs.Spent.{wakes, Key, stepBy, Spent, unwoken, fresh}
 use Rattle.sure.proofs.Good.{Good}
 use Rattle.sure.proofs.Reduce.{Done, Open}
 use Rattle.sure.proofs.Quiet.{Taken, done-read, open-read}
-use Rattle.sure.proofs.Whole.{Alike, Reached, reached, reached-initial, done-alone, open-alone}
+use Rattle.sure.proofs.Moves.{Alike}
+use Rattle.sure.proofs.Whole.{Reached, reached, reached-initial, done-alone, open-alone}
 use Rattle.sure.proofs.Firm.{Firm, firm-step, firm-initial}
 use Rattle.sure.proofs.Spent.{Rested, Through, Else, to-front}
 use Rattle.sure.proofs.Whole

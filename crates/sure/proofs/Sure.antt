@@ -13,15 +13,14 @@ use Rattle.rules.specs.Kinds.{reading, branching, acquiring, syncs, releasing}
 use Rattle.rules.specs.Commit.{barred}
 use Rattle.rules.specs.State.{State, waiting, kindOf}
 use Rattle.rules.specs.Step.{issue, Step, stepCode, commit, neither}
-use Rattle.rules.specs.Issue.{issued}
-use Rattle.rules.proofs.Accepted.{still, after-issue, can-issue, neither-no, issue-ok}
+use Rattle.rules.proofs.Accepted.{still, after-issue, neither-no}
 use Rattle.sure.specs.Sure.{sureKind}
-use Rattle.sure.proofs.Kept.{kept-issue, waits-none, waits-proc}
+use Rattle.sure.proofs.Kept.{issued-old, waits-none, waits-proc}
 use Rattle.sure.proofs.Good.{Good, Turning, good-step}
 use Rattle.sure.proofs.Commits.{Apart, turned, kept, can-after, unread-after, commits-meet}
-use Rattle.sure.proofs.Issues.{issue-after, commit-after, issue-meets}
+use Rattle.sure.proofs.Moves.{commits-move, commit-moves}
 use Rattle.sure.proofs.Reduce.{Diamond, Done, Open, Laws, diamond-last}
-use Rattle.sure.proofs.Commit.{after-take, CanTake, Commit, asStep, self, can-take, input, the, holds, committedBy, take-ok, source-zero}
+use Rattle.sure.proofs.Commit.{after-take, CanTake, Commit, asStep, self, can-take, input, the, holds, source-zero}
 use Rattle.sure.proofs.Held.{release-held, sync-held}
 
 -- an accepted commit of a sure kind
@@ -92,23 +91,14 @@ module _ (c : Case) (s : State) (t : Commit) (G : Good s) (S : SureCommit c s t)
 
       commit-diamond : Diamond c (λ n. Good) (IsSureCommit c) _≡_ s (asStep t) (asStep u)
       commit-diamond =
-          record {
-            still = rw (after-take c s u) (sure-commit t (record { accepted = take-ok c (committedBy c s u) t (unread-after c s t u T U apart unread); kinds = rw (kept c s t u T U apart .same) (S .kinds) }));
-            other = asStep u;
-            fits = rw (after-take c s t) (take-ok c (committedBy c s t) u (can-after c s u t U T (turned c s t u apart) unacquired));
-            meets = rw (after-take c s t, after-take c s u, after-take c (committedBy c s t) u, after-take c (committedBy c s u) t) (sym (commits-meet c s u t U T (turned c s t u apart) unacquired));
-          }
+          let M = commits-move c s t u (unread-after c s t u T U apart unread) (can-after c s u t U T (turned c s t u apart) unacquired) (sym (commits-meet c s u t U T (turned c s t u apart) unacquired)) in
+          record { still = sure-commit t (record { accepted = M .still; kinds = rw (after-take c s u, kept c s t u T U apart .same) (S .kinds) }); other = asStep u; fits = M .fits; meets = M .meets }
 
   -- an issue
   issue-diamond : (q : ℕ) → stepCode c s (issue q) ≡ 0 → Diamond c (λ n. Good) (IsSureCommit c) _≡_ s (asStep t) (issue q)
   issue-diamond q h =
-      let I = can-issue c s q h in
-      record {
-        still = rw (after-issue c s q) (sure-commit t (record { accepted = take-ok c (issued c s q) t (commit-after c s q t G I T); kinds = rw (kept-issue c s q (t .action) (G .fresh (s .count) (omega arith)) (T .there) .same) (S .kinds) }));
-        other = issue q;
-        fits = rw (after-take c s t) (issue-ok c (committedBy c s t) q (issue-after c s q t G I T));
-        meets = rw (after-take c s t, after-issue c s q, after-issue c (committedBy c s t) q, after-take c (issued c s q) t) (issue-meets c s q t G I T);
-      }
+      let M = commit-moves c s G t (S .accepted) q h in
+      record { still = sure-commit t (record { accepted = M .still; kinds = rw (after-issue c s q, issued-old c s q (t .action) (T .there)) (S .kinds) }); other = issue q; fits = M .fits; meets = M .meets }
 
   pub diamond : (u : Step) → stepCode c s u ≡ 0 → (u ≡ asStep t) ⊎ Diamond c (λ n. Good) (IsSureCommit c) _≡_ s (asStep t) u
   diamond (issue q) h = inr (issue-diamond q h)

@@ -1,5 +1,5 @@
 -- Sure steps, issues among them. Assumes nothing.
-use mathlib.Core.Path.{_≡_, refl, sym, _∙_, ap, subst}
+use mathlib.Core.Path.{_≡_, refl, sym, ap, subst}
 use mathlib.Core.Logic.{_⊎_, inl, inr, ⊎-elim, _↔_}
 use mathlib.Core.Bool.{true, false, false≢true}
 use mathlib.Core.List.{List}
@@ -15,20 +15,20 @@ use Rattle.runs.specs.Outcome.{OutcomeFrom, CutFrom, Leads}
 use Rattle.runs.proofs.Walk.{Walk, stop, go, walk}
 use Rattle.rules.specs.Commit.{committed}
 use Rattle.rules.specs.Result.{finished}
-use Rattle.rules.specs.State.{initial, State, Action}
+use Rattle.rules.specs.State.{initial, State}
 use Rattle.rules.specs.Step.{Step, issue, commit, neither, after, stepCode}
 use Rattle.rules.specs.Issue.{issued}
 use Rattle.rules.specs.Womm.{womm}
-use Rattle.rules.proofs.Accepted.{after-issue, still, CanIssue, can-issue, issue-ok, neither-no}
+use Rattle.rules.proofs.Accepted.{after-issue, still, CanIssue, can-issue, neither-no}
 use Rattle.sure.specs.Sure.{Sized, forward, sure}
 use Rattle.sure.proofs.Good.{Good, good-step, good-initial}
-use Rattle.sure.proofs.Issues.{issue-after, commit-after, issue-meets}
+use Rattle.sure.proofs.Pairs.{stays}
+use Rattle.sure.proofs.Moves.{Alike, same, turned, other-way, commit-moves, issues-pass}
 use Rattle.sure.proofs.Reduce.{Done, Open, Diamond, Laws, diamond-last, open-to, done-sure, open-from, open-sure, done-to, done-from}
 use Rattle.sure.proofs.Sure.{IsSureCommit, sure-commit, accepted}
-use Rattle.sure.proofs.Renumber.{swapped, Pair, done-swap, open-swap}
-use Rattle.sure.proofs.Pairs.{stays, issue-issue, at-first, at-second, issues-meet}
+use Rattle.sure.proofs.Renumber.{done-swap, open-swap}
 use Rattle.sure.proofs.Room.{Forward, Counted, room, counted-step, counted-initial, forward-cases}
-use Rattle.sure.proofs.Commit.{committedBy, take-ok, asStep, Commit, can-take, the, after-take}
+use Rattle.sure.proofs.Commit.{committedBy, asStep, Commit, the}
 use Rattle.sure.proofs.Sure
 
 -- what is known of a state with n steps to go: there is room for each issue
@@ -40,15 +40,6 @@ pub record Fine (c : Case) (n : ℕ) (s : State) : Type 0 where
 pub data IsSure (c : Case) (s : State) : Step → Type 0 where
   sure-issue : (p : ℕ) → stepCode c s (issue p) ≡ 0 → IsSure c s (issue p)
   other-sure : (t : Step) → IsSureCommit c s t → IsSure c s t
-
--- the same, or the same with two adjacent actions renumbered
-pub data Alike (a b : State) : Type 0 where
-  same : a ≡ b → Alike a b
-  turned : (n : ℕ) → Pair n a → swapped n a ≡ b → Alike a b
-
-pub count-two : (c : Case) (s : State) (p q : ℕ) → suc (s .count) < issued c (issued c s p) q .count
-unfolding issued
-count-two c s p q = omega arith
 
 count-issue : (c : Case) (s : State) (p : ℕ) → issued c s p .count ≡ suc (s .count)
 unfolding issued
@@ -77,33 +68,14 @@ module _ (c : Case) where
     I = can-issue c s p h
 
     past-commit : (u : Commit) → stepCode c s (asStep u) ≡ 0 → Diamond c (Fine c) (IsSure c) Alike s (issue p) (asStep u)
-    past-commit u k =
-        let U = can-take c s u k in
-        record {
-          still = sure-issue p (rw (after-take c s u) (issue-ok c (committedBy c s u) p (issue-after c s p u G I U)));
-          other = asStep u;
-          fits = rw (after-issue c s p) (take-ok c (issued c s p) u (commit-after c s p u G I U));
-          meets = same (rw (after-issue c s p, after-take c s u, after-issue c (committedBy c s u) p, after-take c (issued c s p) u) (sym (issue-meets c s p u G I U)));
-        }
+    past-commit u k = let M = other-way (commit-moves c s G u k p h) in record { still = sure-issue p (M .still); other = asStep u; fits = M .fits; meets = same (M .meets) }
 
     module _ (q : ℕ) (k : stepCode c s (issue q) ≡ 0) (d : p ≡ q → ⊥) where
       J : CanIssue c s q
       J = can-issue c s q k
 
-      d′ : q ≡ p → ⊥
-      d′ e = d (sym e)
-
-      pair : Pair (s .count) (issued c (issued c s q) p)
-      pair = record { there = count-two c s q p; differ = λ e. d′ (ap (λ (a : Action). a .proc) (sym (at-first c s q p G J I d′)) ∙ e ∙ ap (λ (a : Action). a .proc) (at-second c s q p G J I d′)) }
-
       past-issue : leb 48 (suc (s .count)) ≡ false → Diamond c (Fine c) (IsSure c) Alike s (issue p) (issue q)
-      past-issue space =
-          record {
-            still = sure-issue p (rw (after-issue c s q) (issue-ok c (issued c s q) p (issue-issue c s q p G J I d′ space)));
-            other = issue q;
-            fits = rw (after-issue c s p) (issue-ok c (issued c s p) q (issue-issue c s p q G I J d space));
-            meets = rw (after-issue c s p, after-issue c s q, after-issue c (issued c s q) p, after-issue c (issued c s p) q) (turned (s .count) pair (sym (issues-meet c s p q G I J d)));
-          }
+      past-issue space = let M = issues-pass c s G p q h k d space in record { still = sure-issue p (M .still); other = issue q; fits = M .fits; meets = M .meets }
 
       -- room for two, from what is known of s
       space : (n : ℕ) → (Forward c × Counted s) ⊎ (s .count + suc (suc n) ≤ 48) → leb 48 (suc (s .count)) ≡ false
@@ -113,7 +85,7 @@ module _ (c : Case) where
       -- a processor that can issue is not at its end, and another's issue leaves it there
       both-last : (finished c (after c s (issue q)) ≡ false) × (finished c (after c s (issue p)) ≡ false)
       both-last =
-          (rw (after-issue c s q) (not-at-end c s (issued c s q) p (stays c s q p G J I d′ .places) I (I .proc)), rw (after-issue c s p) (not-at-end c s (issued c s p) q (stays c s p q G I J d .places) J (J .proc)))
+          (rw (after-issue c s q) (not-at-end c s (issued c s q) p (stays c s q p G J I (λ e. d (sym e)) .places) I (I .proc)), rw (after-issue c s p) (not-at-end c s (issued c s p) q (stays c s p q G I J d .places) J (J .proc)))
 
     issue-diamond : (n : ℕ) → (Forward c × Counted s) ⊎ (s .count + suc (suc n) ≤ 48) → (u : Step) → stepCode c s u ≡ 0 → (u ≡ issue p) ⊎ Diamond c (Fine c) (IsSure c) Alike s (issue p) u
     issue-diamond n r (issue q) k = ⊎-elim (λ e. inl (ap issue (eqb-true q p e))) (λ e. let d : p ≡ q → ⊥ = λ x. eqb-false q p e (sym x) in inr (past-issue q k d (space q k d n r))) (decide (eqb q p))
