@@ -6,8 +6,8 @@ use mathlib.Core.Option.{Option, none, some}
 use Prim.Native.Nat.{ℕ}
 use native.Mathlib.Omega.{arith}
 use lib.Dec.{eqb, ltb}
-use borrow.Author.Tests.{not-true, eqb-true, ltb-true, ltb-false, eqb-false}
-use Rattle.words.proofs.Bools.{or-none, below-make, decide, or-cases, or-right, and-make}
+use borrow.Author.Tests.{eqb-true, ltb-true, ltb-false, eqb-false}
+use Rattle.words.proofs.Bools.{below-make, decide, or-cases, or-right, and-make}
 use Rattle.cases.specs.declared.Case.{Case}
 use Rattle.rules.specs.Kinds.{reading, branching, acquiring, syncs, releasing}
 use Rattle.rules.specs.Commit.{barred}
@@ -21,7 +21,7 @@ use Rattle.sure.proofs.Commits.{Apart, turned, kept, can-after, unread-
 use Rattle.sure.proofs.Moves.{commits-move, commit-moves}
 use Rattle.sure.proofs.Reduce.{Diamond, Done, Open, Laws, diamond-last}
 use Rattle.sure.proofs.Commit.{after-take, CanTake, Commit, asStep, self, can-take, input, the, holds, source-zero}
-use Rattle.sure.proofs.Held.{release-held, sync-held}
+use Rattle.sure.proofs.Held.{release-held, sync-held, sure-unacquired, sure-unread}
 
 -- an accepted commit of a sure kind
 pub record SureCommit (c : Case) (s : State) (t : Commit) : Type 0 where
@@ -49,10 +49,10 @@ module _ (c : Case) (s : State) (t : Commit) (G : Good s) (S : SureCommit c s t)
   T = can-take c s t (S .accepted)
 
   unread : reading (kindOf (self s t)) ≡ false
-  unread = or-none (reading (kindOf (self s t))) (acquiring (kindOf (self s t))) (not-true _ (S .kinds)) .0
+  unread = sure-unread (kindOf (self s t)) (S .kinds)
 
   unacquired : acquiring (kindOf (self s t)) ≡ false
-  unacquired = or-none (reading (kindOf (self s t))) (acquiring (kindOf (self s t))) (not-true _ (S .kinds)) .1
+  unacquired = sure-unacquired (kindOf (self s t)) (S .kinds)
 
   -- another commit
   module _ (u : Commit) (h : stepCode c s (asStep u) ≡ 0) where

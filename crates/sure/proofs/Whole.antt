@@ -20,7 +20,7 @@ use Rattle.rules.specs.Step.{Step, issue, commit, neither, after, stepCode}
 use Rattle.rules.specs.Issue.{issued}
 use Rattle.rules.specs.Womm.{womm}
 use Rattle.rules.proofs.Accepted.{after-issue, still, CanIssue, can-issue, neither-no}
-use Rattle.sure.specs.Sure.{Sized, forward, sure}
+use Rattle.sure.specs.Sure.{Sized, forward, sure, roomy}
 use Rattle.sure.proofs.Good.{Good, good-step, good-initial}
 use Rattle.sure.proofs.Pairs.{stays}
 use Rattle.sure.proofs.Moves.{Alike, same, turned, other-way, commit-moves, issues-pass}
@@ -140,12 +140,11 @@ module _ (c : Case) where
     which : (IsSure c s t × Fine c (suc n) s) ⊎ IsSureCommit c s t
     which = step t h q
       where
-        roomy-cases : (forward c ≡ true) ⊎ (leb (s .count + suc n) 48 ≡ true) → (Forward c × Counted s) ⊎ (s .count + suc n ≤ 48)
-        roomy-cases (inl f) = let F = forward-cases c Z f in inl (F, K .counted F)
-        roomy-cases (inr l) = inr (leb-true _ _ l)
+        roomy-cases : roomy c (suc n) s ≡ true → (Forward c × Counted s) ⊎ (s .count + suc n ≤ 48)
+        roomy-cases h = ⊎-elim (λ f. let F = forward-cases c Z f in inl (F, K .counted F)) (λ l. let m = leb-true (s .count + suc n) _ l in inr (omega arith)) (or-cases (forward c) _ h)
 
         step : (t : Step) → stepCode c s t ≡ 0 → sure c (suc n) s t ≡ true → (IsSure c s t × Fine c (suc n) s) ⊎ IsSureCommit c s t
-        step (issue p) h q = inl (sure-issue p h, record { good = K .good; room = roomy-cases (or-cases (forward c) (leb (s .count + suc n) 48) q) })
+        step (issue p) h q = inl (sure-issue p h, record { good = K .good; room = roomy-cases q })
         step (commit p k e) h q = inr (sure-commit (the p k e) (record { accepted = h; kinds = q }))
         step neither h q = absurd (false≢true q)
 
