@@ -46,7 +46,8 @@ abbrev pub holdersBy : Action → ℕ → ℕ → (ℕ → Option ℕ) → ℕ �
 holdersBy a p x f = cond (syncs (kindOf a)) (put f x (cond (acquiring (kindOf a)) (some p) none)) f
 
 -- a test of items that the commit does not change
-pub item-test : (c : Case) (s : State) (t : Commit) (b : Bool) (f : Action → Bool) → f (settledBy c s t) ≡ f (self s t) → (e : ℕ) → itemIs b f (committedBy c s t) e ≡ itemIs b f s e
+pub item-test : (c : Case) (s : State) (t : Commit) (b : Bool) (f : Action → Bool) → f (settledBy c s t) ≡ f (self s t) → (e : ℕ)
+    → itemIs b f (committedBy c s t) e ≡ itemIs b f s e
 item-test c s t b f h e = ap (λ (x : Bool). cond (ltb e 8) b x) (committed-field c s t f h (e - 8))
 
 release-result : (c : Case) (s : State) (t : Commit) (i : Instr) → releasing (kind i) ≡ true → resultBy c s t i ≡ input s t 0
@@ -77,20 +78,26 @@ module _ (c : Case) (s : State) (t u : Commit) (T : CanTake c s t) (U : CanTake 
   unfolding committed
   holders-after e = step (syncs (kindOf (self s u))) refl
     where
-      step : (b : Bool) → syncs (kindOf (self s u)) ≡ b → cond b (put (s .holders) (input s u 0) (cond (acquiring (kindOf (self s u))) (some (u .proc)) none)) (s .holders) (input s t 0) ≡ s .holders (input s t 0)
+      step : (b : Bool) → syncs (kindOf (self s u)) ≡ b
+          → cond b (put (s .holders) (input s u 0) (cond (acquiring (kindOf (self s u))) (some (u .proc)) none)) (s .holders) (input s t 0) ≡ s .holders (input s t 0)
       step true q = put-other (s .holders) (input s u 0) (input s t 0) _ (A .locks e q)
       step false q = refl
 
   allowed-after : barred (t .proc) (kindOf (self s t)) (committedBy c s u .holders (input s t 0)) ≡ false
-  allowed-after = ⊎-elim (λ e. rw (holders-after e) (T .allowed)) (unbarred (t .proc) (kindOf (self s t)) (committedBy c s u .holders (input s t 0))) (decide (syncs (kindOf (self s t))))
+  allowed-after =
+      ⊎-elim (λ e. rw (holders-after e) (T .allowed))
+      (unbarred (t .proc) (kindOf (self s t)) (committedBy c s u .holders (input s t 0)))
+      (decide (syncs (kindOf (self s t))))
 
   writes-after : (l e : ℕ) → writes (committedBy c s u) l e ≡ writes s l e
   writes-after l e = item-test c s u (eqb e l) (λ a. writing (kindOf a) && eqb (a .loc) l) refl e
 
-  released-after : (m : ℕ) → (releasing (kindOf (self s u)) ≡ true → m ≡ input s u 0 → ⊥) → (e : ℕ) → releases (committedBy c s u) m e ≡ releases s m e
+  released-after : (m : ℕ) → (releasing (kindOf (self s u)) ≡ true → m ≡ input s u 0 → ⊥) → (e : ℕ)
+      → releases (committedBy c s u) m e ≡ releases s m e
   released-after m d e = item-test c s u false (λ a. releasing (kindOf a) && is m (a .result)) (step (decide (releasing (kindOf (self s u))))) e
     where
-      step : (releasing (kindOf (self s u)) ≡ true) ⊎ (releasing (kindOf (self s u)) ≡ false) → (releasing (kindOf (self s u)) && eqb (resultBy c s u (self s u .instr)) m) ≡ (releasing (kindOf (self s u)) && is m (self s u .result))
+      step : (releasing (kindOf (self s u)) ≡ true) ⊎ (releasing (kindOf (self s u)) ≡ false)
+          → (releasing (kindOf (self s u)) && eqb (resultBy c s u (self s u .instr)) m) ≡ (releasing (kindOf (self s u)) && is m (self s u .result))
       step (inl q) = rw (q, waits-none (u .proc) (self s u) (U .waits)) (ne-eqb _ m λ x. d q (sym x ∙ release-result c s u (self s u .instr) q))
       step (inr q) = rw q
 
@@ -107,7 +114,8 @@ module _ (c : Case) (s : State) (t u : Commit) (T : CanTake c s t) (U : CanTake 
     between-kept : (l i e w : ℕ) → between (committedBy c s u) l i e w ≡ between s l i e w
     between-kept l i e w = ap₂ (λ (b : Bool) (R : Order). b && (R e w && R w i)) (writes-after l w) (orders-kept l)
 
-    newest-kept : (l i e : ℕ) → someBelow (8 + s .count) (between s l i e) ≡ false → someBelow (8 + committedBy c s u .count) (between (committedBy c s u) l i e) ≡ false
+    newest-kept : (l i e : ℕ) → someBelow (8 + s .count) (between s l i e) ≡ false
+        → someBelow (8 + committedBy c s u .count) (between (committedBy c s u) l i e) ≡ false
     unfolding committed
     newest-kept l i e h = below-same (8 + s .count) (between (committedBy c s u) l i e) (between s l i e) (λ w z. between-kept l i e w) ∙ h
 
@@ -123,7 +131,8 @@ module _ (c : Case) (s : State) (t u : Commit) (T : CanTake c s t) (U : CanTake 
     pub can-after : CanTake c (committedBy c s u) t
     can-after = carry c s (committedBy c s u) t kept T allowed-after (sees (decide (reading (kindOf (self s t)))))
       where
-        sees : (reading (kindOf (self s t)) ≡ true) ⊎ (reading (kindOf (self s t)) ≡ false) → (reading (kindOf (self s t)) && not (visible c (committedBy c s u) (self s t .loc) (item t) (t .source))) ≡ false
+        sees : (reading (kindOf (self s t)) ≡ true) ⊎ (reading (kindOf (self s t)) ≡ false)
+            → (reading (kindOf (self s t)) && not (visible c (committedBy c s u) (self s t .loc) (item t) (t .source))) ≡ false
         sees (inl r) = rw (r, visible-make c (committedBy c s u) (self s t .loc) (item t) (t .source) (visible-kept _ _ _ (sees-take c s t T r))) refl
         sees (inr r) = rw r
 
@@ -157,30 +166,45 @@ module _ (c : Case) (s : State) (t u : Commit) (T : CanTake c s t) (U : CanTake 
       ∙ cond-put-swap _ _ (s .holders) (input s t 0) (input s u 0) _ _ (A .locks)
       ∙ sym (ap₂ (λ (a : Action) (x : ℕ). holdersBy a (u .proc) x (committedBy c s t .holders)) (L .same) (input-same c s (committedBy c s t) u L U 0))
 
-  same-orders : acquiring (kindOf (self s u)) ≡ false → (l : ℕ) → committedBy c (committedBy c s u) t .orders l ≡ committedBy c (committedBy c s t) u .orders l
+  same-orders : acquiring (kindOf (self s u)) ≡ false → (l : ℕ)
+      → committedBy c (committedBy c s u) t .orders l ≡ committedBy c (committedBy c s t) u .orders l
   unfolding committed
   same-orders plain l =
       ap₂ (λ (a : Action) (x : ℕ). joinedIf (ltb l (c .locs) && acquiring (kindOf a)) (committedBy c s u .orders l) (item t) (8 + s .count) (releases (committedBy c s u) x)) (K .same) (input-same c s (committedBy c s u) t K T 0)
-      ∙ ap (λ (R : Order). joinedIf (ltb l (c .locs) && acquiring (kindOf (self s t))) R (item t) (8 + s .count) (releases (committedBy c s u) (input s t 0))) (orders-kept c s t u T U A plain l)
+      ∙ ap
+      (λ (R : Order). joinedIf (ltb l (c .locs) && acquiring (kindOf (self s t))) R (item t) (8 + s .count) (releases (committedBy c s u) (input s t 0)))
+      (orders-kept c s t u T U A plain l)
       ∙ step (decide (acquiring (kindOf (self s t))))
       ∙ sym (joinedIf-false _ _ _ _ _ (and-right (ltb l (c .locs)) _ (ap (λ (a : Action). acquiring (kindOf a)) (L .same) ∙ plain)))
     where
       step : (acquiring (kindOf (self s t)) ≡ true) ⊎ (acquiring (kindOf (self s t)) ≡ false)
           → joinedIf (ltb l (c .locs) && acquiring (kindOf (self s t))) (s .orders l) (item t) (8 + s .count) (releases (committedBy c s u) (input s t 0)) ≡ joinedIf (ltb l (c .locs) && acquiring (kindOf (self s t))) (s .orders l) (item t) (8 + s .count) (releases s (input s t 0))
-      step (inl q) = ap (joinedIf (ltb l (c .locs) && acquiring (kindOf (self s t))) (s .orders l) (item t) (8 + s .count)) (fun-ext (released-after c s t u T U A (input s t 0) (λ r e. A .locks (acquire-syncs (kindOf (self s t)) q) (release-syncs (kindOf (self s u)) r) e)))
+      step (inl q) =
+          ap
+          (joinedIf (ltb l (c .locs) && acquiring (kindOf (self s t))) (s .orders l) (item t) (8 + s .count))
+          (fun-ext (released-after c s t u T U A (input s t 0) (λ r e. A .locks (acquire-syncs (kindOf (self s t)) q) (release-syncs (kindOf (self s u)) r) e)))
       step (inr q) = joinedIf-false _ _ _ _ _ (and-right (ltb l (c .locs)) _ q) ∙ sym (joinedIf-false _ _ _ _ _ (and-right (ltb l (c .locs)) _ q))
 
   -- two acquires
-  both-orders : ((l : ℕ) → Transitive (s .orders l)) → releasing (kindOf (self s t)) ≡ false → releasing (kindOf (self s u)) ≡ false → (l : ℕ) → committedBy c (committedBy c s u) t .orders l ≡ committedBy c (committedBy c s t) u .orders l
+  both-orders : ((l : ℕ) → Transitive (s .orders l)) → releasing (kindOf (self s t)) ≡ false → releasing (kindOf (self s u)) ≡ false → (l : ℕ)
+      → committedBy c (committedBy c s u) t .orders l ≡ committedBy c (committedBy c s t) u .orders l
   unfolding committed
   both-orders tr nt nu l =
       ap₂ (λ (a : Action) (x : ℕ). joinedIf (ltb l (c .locs) && acquiring (kindOf a)) (committedBy c s u .orders l) (item t) (8 + s .count) (releases (committedBy c s u) x)) (K .same) (input-same c s (committedBy c s u) t K T 0)
-      ∙ ap (joinedIf (ltb l (c .locs) && acquiring (kindOf (self s t))) (committedBy c s u .orders l) (item t) (8 + s .count)) (fun-ext (released-after c s t u T U A (input s t 0) (λ r. absurd (false≢true (sym nu ∙ r)))))
-      ∙ joinedIf-swap (ltb l (c .locs) && acquiring (kindOf (self s u))) (ltb l (c .locs) && acquiring (kindOf (self s t))) (s .orders l) (item u) (8 + s .count) (releases s (input s u 0)) (item t) (8 + s .count) (releases s (input s t 0)) (tr l)
-      ∙ ap (joinedIf (ltb l (c .locs) && acquiring (kindOf (self s u))) (committedBy c s t .orders l) (item u) (8 + s .count)) (sym (fun-ext (released-after c s u t U T (turned c s t u A) (input s u 0) (λ r. absurd (false≢true (sym nt ∙ r))))))
-      ∙ sym (ap₂ (λ (a : Action) (x : ℕ). joinedIf (ltb l (c .locs) && acquiring (kindOf a)) (committedBy c s t .orders l) (item u) (8 + s .count) (releases (committedBy c s t) x)) (L .same) (input-same c s (committedBy c s t) u L U 0))
+      ∙ ap
+      (joinedIf (ltb l (c .locs) && acquiring (kindOf (self s t))) (committedBy c s u .orders l) (item t) (8 + s .count))
+      (fun-ext (released-after c s t u T U A (input s t 0) (λ r. absurd (false≢true (sym nu ∙ r)))))
+      ∙ joinedIf-swap (ltb l (c .locs) && acquiring (kindOf (self s u))) (ltb l (c .locs) && acquiring (kindOf (self s t))) (s .orders l) (item u)
+      (8 + s .count) (releases s (input s u 0)) (item t) (8 + s .count)
+      (releases s (input s t 0)) (tr l)
+      ∙ ap
+      (joinedIf (ltb l (c .locs) && acquiring (kindOf (self s u))) (committedBy c s t .orders l) (item u) (8 + s .count))
+      (sym (fun-ext (released-after c s u t U T (turned c s t u A) (input s u 0) (λ r. absurd (false≢true (sym nt ∙ r))))))
+      ∙ sym
+      (ap₂ (λ (a : Action) (x : ℕ). joinedIf (ltb l (c .locs) && acquiring (kindOf a)) (committedBy c s t .orders l) (item u) (8 + s .count) (releases (committedBy c s t) x)) (L .same) (input-same c s (committedBy c s t) u L U 0))
 
-  meet : ((l : ℕ) → committedBy c (committedBy c s u) t .orders l ≡ committedBy c (committedBy c s t) u .orders l) → committedBy c (committedBy c s u) t ≡ committedBy c (committedBy c s t) u
+  meet : ((l : ℕ) → committedBy c (committedBy c s u) t .orders l ≡ committedBy c (committedBy c s t) u .orders l)
+      → committedBy c (committedBy c s u) t ≡ committedBy c (committedBy c s t) u
   unfolding committed
   meet orders = λ i. record {
     count = s .count;
@@ -194,5 +218,6 @@ module _ (c : Case) (s : State) (t u : Commit) (T : CanTake c s t) (U : CanTake 
   pub commits-meet : acquiring (kindOf (self s u)) ≡ false → committedBy c (committedBy c s u) t ≡ committedBy c (committedBy c s t) u
   commits-meet plain = meet (same-orders plain)
 
-  pub acquires-meet : ((l : ℕ) → Transitive (s .orders l)) → releasing (kindOf (self s t)) ≡ false → releasing (kindOf (self s u)) ≡ false → committedBy c (committedBy c s u) t ≡ committedBy c (committedBy c s t) u
+  pub acquires-meet : ((l : ℕ) → Transitive (s .orders l)) → releasing (kindOf (self s t)) ≡ false → releasing (kindOf (self s u)) ≡ false
+      → committedBy c (committedBy c s u) t ≡ committedBy c (committedBy c s t) u
   acquires-meet tr nt nu = meet (both-orders tr nt nu)

@@ -36,7 +36,8 @@ pub record Firm (s : State) : Type 0 where
   -- what stands behind an action in the queue is its processor's
   pub behind : (l k b : ℕ) → s .orders l (8 + k) b ≡ true → s .actions k .result ≡ none → Behind s k b
   -- before a committed release, all of its processor is committed
-  pub drained : (j k : ℕ) → releasing (kindOf (s .actions j)) ≡ true → isNone (s .actions j .result) ≡ false → k < j → s .actions k .proc ≡ s .actions j .proc → s .actions k .result ≡ none → ⊥
+  pub drained : (j k : ℕ) → releasing (kindOf (s .actions j)) ≡ true → isNone (s .actions j .result) ≡ false → k < j
+      → s .actions k .proc ≡ s .actions j .proc → s .actions k .result ≡ none → ⊥
 
 pub firm-initial : (c : Case) → Firm (initial c)
 firm-initial c = record { behind = λ l k b x y. absurd (false≢true x); drained = λ j k x y l p z. absurd (false≢true (sym y)) }
@@ -55,11 +56,15 @@ module _ (c : Case) (s : State) (G : Good s) (F : Firm s) where
 
     -- an earlier item of the processor
     earlier-proc : (l j : ℕ) → earlier c s p l (8 + j) ≡ true → s .actions j .proc ≡ p
-    earlier-proc l j h = eqb-true _ _ (and-both (eqb (s .actions j .proc) p) (standsAt l (s .actions j)) (sym (item-high (eqb (8 + j) l) (λ a. eqb (a .proc) p && standsAt l a) s j (8 + j) refl) ∙ h) .0)
+    earlier-proc l j h =
+        eqb-true _ _
+        (and-both (eqb (s .actions j .proc) p) (standsAt l (s .actions j)) (sym (item-high (eqb (8 + j) l) (λ a. eqb (a .proc) p && standsAt l a) s j (8 + j) refl) ∙ h) .0)
 
     behind-issue : (l k b : ℕ) → issued c s p .orders l (8 + k) b ≡ true → issued c s p .actions k .result ≡ none → Behind (issued c s p) k b
     unfolding issued
-    behind-issue l k b h w = ⊎-elim before via (joinedIf-cases (ltb l (c .locs) && standsAt l (newAction c s p)) (s .orders l) (8 + s .count) (8 + s .count) (earlier c s p l) (8 + k) b h)
+    behind-issue l k b h w =
+        ⊎-elim before via
+        (joinedIf-cases (ltb l (c .locs) && standsAt l (newAction c s p)) (s .orders l) (8 + s .count) (8 + s .count) (earlier c s p l) (8 + k) b h)
       where
         idle : k < s .count → s .actions k .result ≡ none
         idle g = ap (λ (a : Action). a .result) (sym (issued-old c s p k g)) ∙ w
@@ -71,7 +76,13 @@ module _ (c : Case) (s : State) (G : Good s) (F : Firm s) where
             behind-old k b g (q .1) (F .behind l k b e (idle g))
 
         new : b ≡ 8 + s .count → k < s .count → s .actions k .proc ≡ p → Behind (issued c s p) k b
-        new e g m = record { number = s .count; isItem = e; above = g; mine = ap (λ (a : Action). a .proc) (issued-new c s p) ∙ sym m ∙ ap (λ (a : Action). a .proc) (sym (issued-old c s p k g)) }
+        new e g m =
+            record {
+              number = s .count;
+              isItem = e;
+              above = g;
+              mine = ap (λ (a : Action). a .proc) (issued-new c s p) ∙ sym m ∙ ap (λ (a : Action). a .proc) (sym (issued-old c s p k g));
+            }
 
         via : Via (s .orders l) (8 + s .count) (8 + s .count) (earlier c s p l) (8 + k) b → Behind (issued c s p) k b
         via v = down (v .down)
@@ -87,7 +98,8 @@ module _ (c : Case) (s : State) (G : Good s) (F : Firm s) where
             down (inl e) = let q = at (v .up) in new (sym e) (q .0) (q .1)
             down (inr e) = absurd (omega (arith, G .bounded l (8 + s .count) b e .0))
 
-    drained-issue : (j k : ℕ) → releasing (kindOf (issued c s p .actions j)) ≡ true → isNone (issued c s p .actions j .result) ≡ false → k < j → issued c s p .actions k .proc ≡ issued c s p .actions j .proc → issued c s p .actions k .result ≡ none → ⊥
+    drained-issue : (j k : ℕ) → releasing (kindOf (issued c s p .actions j)) ≡ true → isNone (issued c s p .actions j .result) ≡ false → k < j
+        → issued c s p .actions k .proc ≡ issued c s p .actions j .proc → issued c s p .actions k .result ≡ none → ⊥
     unfolding issued
     drained-issue j k x y l m z =
         let g : j < s .count = low (decide (ltb j (s .count))) in
@@ -96,7 +108,11 @@ module _ (c : Case) (s : State) (G : Good s) (F : Firm s) where
         F .drained j k (ap (λ (a : Action). releasing (kindOf a)) (sym a) ∙ x) (ap (λ (a : Action). isNone (a .result)) (sym a) ∙ y) l (ap (λ (a : Action). a .proc) (sym b) ∙ m ∙ ap (λ (a : Action). a .proc) a) (ap (λ (a : Action). a .result) (sym b) ∙ z)
       where
         unset : s .count ≤ j → isNone (issued c s p .actions j .result) ≡ true
-        unset h = ⊎-elim (λ e. ap (λ (a : Action). isNone (a .result)) (put-same (s .actions) (s .count) j (newAction c s p) (eqb-true _ _ e))) (λ e. ap (λ (a : Action). isNone (a .result)) (put-other (s .actions) (s .count) j (newAction c s p) (eqb-false _ _ e)) ∙ ap isNone (G .fresh j h)) (decide (eqb j (s .count)))
+        unset h =
+            ⊎-elim
+            (λ e. ap (λ (a : Action). isNone (a .result)) (put-same (s .actions) (s .count) j (newAction c s p) (eqb-true _ _ e)))
+            (λ e. ap (λ (a : Action). isNone (a .result)) (put-other (s .actions) (s .count) j (newAction c s p) (eqb-false _ _ e)) ∙ ap isNone (G .fresh j h))
+            (decide (eqb j (s .count)))
 
         low : (ltb j (s .count) ≡ true) ⊎ (ltb j (s .count) ≡ false) → j < s .count
         low (inl e) = ltb-true _ _ e
@@ -129,21 +145,26 @@ module _ (c : Case) (s : State) (G : Good s) (F : Firm s) where
     -- an edge from a queued action was there before
     kept-edge : (l k b : ℕ) → s .actions k .result ≡ none → committedBy c s u .orders l (8 + k) b ≡ true → s .orders l (8 + k) b ≡ true
     unfolding committed
-    kept-edge l k b n h = ⊎-elim (λ e. e) (λ v. absurd (released-front l (input s u 0) k (v .from) (v .one) (v .up) n)) (joinedIf-cases (ltb l (c .locs) && acquiring (kindOf (self s u))) (s .orders l) (item u) (8 + s .count) (releases s (input s u 0)) (8 + k) b h)
+    kept-edge l k b n h =
+        ⊎-elim (λ e. e)
+        (λ v. absurd (released-front l (input s u 0) k (v .from) (v .one) (v .up) n))
+        (joinedIf-cases (ltb l (c .locs) && acquiring (kindOf (self s u))) (s .orders l) (item u) (8 + s .count) (releases s (input s u 0)) (8 + k) b h)
 
     -- what is queued after was before
     pub was-queued : (k : ℕ) → committedBy c s u .actions k .result ≡ none → (k ≡ u .action → ⊥) × (s .actions k .result ≡ none)
     unfolding committed
     was-queued k = step (eqb k (u .action)) refl
       where
-        step : (b : Bool) → eqb k (u .action) ≡ b → cond b (settledBy c s u) (s .actions k) .result ≡ none → (k ≡ u .action → ⊥) × (s .actions k .result ≡ none)
+        step : (b : Bool) → eqb k (u .action) ≡ b → cond b (settledBy c s u) (s .actions k) .result ≡ none
+            → (k ≡ u .action → ⊥) × (s .actions k .result ≡ none)
         step true e x = absurd (false≢true (ap isNone x))
         step false e x = (eqb-false _ _ e, x)
 
     same-proc : (k : ℕ) → committedBy c s u .actions k .proc ≡ s .actions k .proc
     same-proc = committed-field c s u (λ a. a .proc) refl
 
-    drained-commit : (j k : ℕ) → releasing (kindOf (committedBy c s u .actions j)) ≡ true → isNone (committedBy c s u .actions j .result) ≡ false → k < j → committedBy c s u .actions k .proc ≡ committedBy c s u .actions j .proc → committedBy c s u .actions k .result ≡ none → ⊥
+    drained-commit : (j k : ℕ) → releasing (kindOf (committedBy c s u .actions j)) ≡ true → isNone (committedBy c s u .actions j .result) ≡ false
+        → k < j → committedBy c s u .actions k .proc ≡ committedBy c s u .actions j .proc → committedBy c s u .actions k .result ≡ none → ⊥
     unfolding committed
     drained-commit j k x y l m z = step (decide (eqb j (u .action)))
       where
@@ -209,11 +230,15 @@ module _ (c : Case) (s : State) (G : Good s) (F : Firm s) where
     -- an edge to the read was there before, and so was one to what stands before it
     to-read : (l w : ℕ) → committedBy c s u .orders l w (item t) ≡ true → s .orders l w (item t) ≡ true
     unfolding committed
-    to-read l w h = ⊎-elim (λ e. e) (λ v. absurd (not-upTo l (v .down))) (joinedIf-cases (ltb l (c .locs) && acquiring (kindOf (self s u))) (s .orders l) (item u) (8 + s .count) (releases s (input s u 0)) w (item t) h)
+    to-read l w h =
+        ⊎-elim (λ e. e) (λ v. absurd (not-upTo l (v .down)))
+        (joinedIf-cases (ltb l (c .locs) && acquiring (kindOf (self s u))) (s .orders l) (item u) (8 + s .count) (releases s (input s u 0)) w (item t) h)
 
     to-before : (l e w : ℕ) → s .orders l w (item t) ≡ true → committedBy c s u .orders l e w ≡ true → s .orders l e w ≡ true
     unfolding committed
-    to-before l e w x h = ⊎-elim (λ q. q) (λ v. absurd (down (v .down))) (joinedIf-cases (ltb l (c .locs) && acquiring (kindOf (self s u))) (s .orders l) (item u) (8 + s .count) (releases s (input s u 0)) e w h)
+    to-before l e w x h =
+        ⊎-elim (λ q. q) (λ v. absurd (down (v .down)))
+        (joinedIf-cases (ltb l (c .locs) && acquiring (kindOf (self s u))) (s .orders l) (item u) (8 + s .count) (releases s (input s u 0)) e w h)
       where
         down : UpTo (s .orders l) (item u) w → ⊥
         down (inl q) = not-behind l (subst (λ (y : ℕ). s .orders l y (item t) ≡ true) (sym q) x)

@@ -72,7 +72,8 @@ unfolding joinedIf
 joinedIf-transitive true R i n P t = joined-transitive R i n P t
 joinedIf-transitive false R i n P t = t
 
-joinedIf-bounded : (b : Bool) (R : Order) (i n m : ℕ) (P : ℕ → Bool) → ((x y : ℕ) → R x y ≡ true → (x < m) × (y < m)) → i < m → n ≤ m → (x y : ℕ) → joinedIf b R i n P x y ≡ true → (x < m) × (y < m)
+joinedIf-bounded : (b : Bool) (R : Order) (i n m : ℕ) (P : ℕ → Bool) → ((x y : ℕ) → R x y ≡ true → (x < m) × (y < m)) → i < m → n ≤ m → (x y : ℕ)
+    → joinedIf b R i n P x y ≡ true → (x < m) × (y < m)
 unfolding joinedIf
 joinedIf-bounded true R i n m P f h g x y e = ⊎-elim (f x y) (λ v. (up v (v .up), down (v .down))) (joined-cases R i n P x y e)
   where
@@ -102,7 +103,8 @@ module _ (c : Case) (s : State) (G : Good s) where
     unfolding issued
     turning-issue q k w = step (eqb k (s .count)) refl (w .mine) (w .waits) (w .turns)
       where
-        step : (b : Bool) → eqb k (s .count) ≡ b → cond b (newAction c s p) (s .actions k) .proc ≡ q → cond b (newAction c s p) (s .actions k) .result ≡ none → branching (kindOf (cond b (newAction c s p) (s .actions k))) ≡ true
+        step : (b : Bool) → eqb k (s .count) ≡ b → cond b (newAction c s p) (s .actions k) .proc ≡ q
+            → cond b (newAction c s p) (s .actions k) .result ≡ none → branching (kindOf (cond b (newAction c s p) (s .actions k))) ≡ true
             → ((k ≡ s .count) × (q ≡ p) × (branching (kind (next c s p)) ≡ true)) ⊎ Turning s q k
         step true e x y z = inl (eqb-true _ _ e, sym x, z)
         step false e x y z = inr (record { there = omega (arith, w .there, eqb-false k (s .count) e); mine = x; waits = y; turns = z })
@@ -135,7 +137,10 @@ module _ (c : Case) (s : State) (G : Good s) where
     inputs-issue k = step (eqb k (s .count))
       where
         step : (b : Bool) → AllBelow (suc (s .count)) (cond b (newAction c s p) (s .actions k) .inputs)
-        step true = all-map (suc (s .count)) (s .names p) (λ j. below-more (s .count) (suc (s .count)) (omega arith) (s .names p j) (G .named p j)) (reads (next c s p))
+        step true =
+            all-map (suc (s .count)) (s .names p)
+            (λ j. below-more (s .count) (suc (s .count)) (omega arith) (s .names p j) (G .named p j))
+            (reads (next c s p))
         step false = all-more (s .count) (suc (s .count)) (omega arith) (s .actions k .inputs) (G .inputs k)
 
     pub good-issue : Good (issued c s p)
@@ -151,7 +156,8 @@ module _ (c : Case) (s : State) (G : Good s) where
           bounded = λ l a b. joinedIf-bounded _ _ _ _ _ _ (λ x y e. let w = G .bounded l x y e in (omega (arith, w .0), omega (arith, w .1))) (omega arith) (omega arith) a b;
         }
       where
-        alone : (q j k : ℕ) → ((j ≡ s .count) × (q ≡ p) × (branching (kind (next c s p)) ≡ true)) ⊎ Turning s q j → ((k ≡ s .count) × (q ≡ p) × (branching (kind (next c s p)) ≡ true)) ⊎ Turning s q k → j ≡ k
+        alone : (q j k : ℕ) → ((j ≡ s .count) × (q ≡ p) × (branching (kind (next c s p)) ≡ true)) ⊎ Turning s q j
+            → ((k ≡ s .count) × (q ≡ p) × (branching (kind (next c s p)) ≡ true)) ⊎ Turning s q k → j ≡ k
         alone q j k (inl x) (inl y) = x .0 ∙ sym (y .0)
         alone q j k (inl x) (inr y) = absurd (none-here k (subst (λ (z : ℕ). Turning s z k) (x .1) y))
         alone q j k (inr x) (inl y) = absurd (none-here j (subst (λ (z : ℕ). Turning s z j) (y .1) x))
@@ -162,7 +168,8 @@ module _ (c : Case) (s : State) (G : Good s) where
     unfolding committed
     turning-commit q k w = step (eqb k (t .action)) refl (w .mine) (w .waits) (w .turns)
       where
-        step : (b : Bool) → eqb k (t .action) ≡ b → cond b (settledBy c s t) (s .actions k) .proc ≡ q → cond b (settledBy c s t) (s .actions k) .result ≡ none → branching (kindOf (cond b (settledBy c s t) (s .actions k))) ≡ true
+        step : (b : Bool) → eqb k (t .action) ≡ b → cond b (settledBy c s t) (s .actions k) .proc ≡ q
+            → cond b (settledBy c s t) (s .actions k) .result ≡ none → branching (kindOf (cond b (settledBy c s t) (s .actions k))) ≡ true
             → (k ≡ t .action → ⊥) × Turning s q k
         step true e x y z = absurd (false≢true (ap isNone y))
         step false e x y z = (eqb-false _ _ e, record { there = w .there; mine = x; waits = y; turns = z })
@@ -172,9 +179,12 @@ module _ (c : Case) (s : State) (G : Good s) where
     halts-commit q k d w = step (branching (kindOf (self s t))) refl
       where
         differ : branching (kindOf (self s t)) ≡ true → q ≡ t .proc → ⊥
-        differ b e = d (G .alone q k (t .action) w (record { there = h .there; mine = waits-proc (t .proc) (self s t) (h .waits) ∙ sym e; waits = waits-none (t .proc) (self s t) (h .waits); turns = b }))
+        differ b e =
+            d
+            (G .alone q k (t .action) w (record { there = h .there; mine = waits-proc (t .proc) (self s t) (h .waits) ∙ sym e; waits = waits-none (t .proc) (self s t) (h .waits); turns = b }))
 
-        step : (b : Bool) → branching (kindOf (self s t)) ≡ b → isNone (cond b (put (s .places) (t .proc) (some (cond (eqb (input s t 0) 0) (suc (self s t .place)) (labelOf (self s t .instr))))) (s .places) q) ≡ true
+        step : (b : Bool) → branching (kindOf (self s t)) ≡ b
+            → isNone (cond b (put (s .places) (t .proc) (some (cond (eqb (input s t 0) 0) (suc (self s t .place)) (labelOf (self s t .instr))))) (s .places) q) ≡ true
         step true e = ap isNone (put-other (s .places) (t .proc) q _ (differ e)) ∙ G .halts q k w
         step false e = G .halts q k w
 

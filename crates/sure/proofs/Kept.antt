@@ -43,7 +43,8 @@ pub not-waiting : (p : ℕ) (a : Action) (v : ℕ) → a .result ≡ some v → 
 not-waiting p a v e h = false≢true (sym (ap isNone e) ∙ and-both (eqb (a .proc) p) (isNone (a .result)) h .1)
 
 -- an action without a value gets one: what had a value keeps it, and what is in the queue was there
-pub values-put : (s s′ : State) (k : ℕ) (a : Action) → s′ .actions ≡ put (s .actions) k a → s .actions k .result ≡ none → (n : Name) → isNone (valueOf s n) ≡ false → valueOf s′ n ≡ valueOf s n
+pub values-put : (s s′ : State) (k : ℕ) (a : Action) → s′ .actions ≡ put (s .actions) k a → s .actions k .result ≡ none → (n : Name)
+    → isNone (valueOf s n) ≡ false → valueOf s′ n ≡ valueOf s n
 values-put s s′ k a q f (start v) e = refl
 values-put s s′ k a q f (given j) e =
     ap (λ (A : ℕ → Action). A j .result) q
@@ -53,7 +54,8 @@ pub queue-put : (A : ℕ → Action) (k : ℕ) (a : Action) (v : ℕ) → a .res
 queue-put A k a v q p j w = put-other A k j a (λ e. not-waiting p a v q (subst (λ (b : Action). waiting p b ≡ true) (put-same A k j a e) w))
 
 -- a commit leaves of each action all but its result
-pub committed-field : {X : Type 0} (c : Case) (s : State) (t : Commit) (f : Action → X) → f (settledBy c s t) ≡ f (self s t) → (k : ℕ) → f (committedBy c s t .actions k) ≡ f (s .actions k)
+pub committed-field : {X : Type 0} (c : Case) (s : State) (t : Commit) (f : Action → X) → f (settledBy c s t) ≡ f (self s t) → (k : ℕ)
+    → f (committedBy c s t .actions k) ≡ f (s .actions k)
 unfolding committed
 committed-field c s t f h k = step (eqb k (t .action)) refl
   where
@@ -91,16 +93,19 @@ kept-issue c s q k f d =
     }
 
 -- what was defined is defined
-pub ready-kept : (s s′ : State) (k : ℕ) → Kept s s′ k → (l : List Name) → any (λ n. isNone (valueOf s n)) l ≡ false → any (λ n. isNone (valueOf s′ n)) l ≡ false
+pub ready-kept : (s s′ : State) (k : ℕ) → Kept s s′ k → (l : List Name) → any (λ n. isNone (valueOf s n)) l ≡ false
+    → any (λ n. isNone (valueOf s′ n)) l ≡ false
 ready-kept s s′ k K [] e = refl
-ready-kept s s′ k K (n ∷ l) e = let w = or-none (isNone (valueOf s n)) (any (λ m. isNone (valueOf s m)) l) e in rw (K .values n (w .0), w .0) (ready-kept s s′ k K l (w .1))
+ready-kept s s′ k K (n ∷ l) e =
+    let w = or-none (isNone (valueOf s n)) (any (λ m. isNone (valueOf s m)) l) e in rw (K .values n (w .0), w .0) (ready-kept s s′ k K l (w .1))
 
 -- what an action before it in the queue holds back, it held back before
 pub holds-kept : (s s′ : State) (t : Commit) → Kept s s′ (t .action) → (j : ℕ) → j < t .action → holds s′ t j ≡ true → holds s t j ≡ true
 holds-kept s s′ t K j l e = rw (← K .queue (t .proc) j l (and-both _ _ e .0), ← K .same) e
 
 module _ (c : Case) (s s′ : State) (t : Commit) (K : Kept s s′ (t .action)) (h : CanTake c s t) where
-  same-input : (l : List Name) (i : ℕ) → any (λ n. isNone (valueOf s n)) l ≡ false → valueOf s′ (getD l i (start none)) ≡ valueOf s (getD l i (start none))
+  same-input : (l : List Name) (i : ℕ) → any (λ n. isNone (valueOf s n)) l ≡ false
+      → valueOf s′ (getD l i (start none)) ≡ valueOf s (getD l i (start none))
   same-input [] i e = refl
   same-input (n ∷ l) zero e = K .values n (or-none (isNone (valueOf s n)) (any (λ m. isNone (valueOf s m)) l) e .0)
   same-input (n ∷ l) (suc i) e = same-input l i (or-none (isNone (valueOf s n)) (any (λ m. isNone (valueOf s m)) l) e .1)
@@ -111,11 +116,13 @@ module _ (c : Case) (s s′ : State) (t : Commit) (K : Kept s s′ (t .action)) 
   pub item-kept : (e : ℕ) → isNone (itemValue c s e) ≡ false → itemValue c s′ e ≡ itemValue c s e
   item-kept e = step (ltb e 8)
     where
-      step : (b : Bool) → isNone (cond b (some (wordOf c e)) (s .actions (e - 8) .result)) ≡ false → cond b (some (wordOf c e)) (s′ .actions (e - 8) .result) ≡ cond b (some (wordOf c e)) (s .actions (e - 8) .result)
+      step : (b : Bool) → isNone (cond b (some (wordOf c e)) (s .actions (e - 8) .result)) ≡ false
+          → cond b (some (wordOf c e)) (s′ .actions (e - 8) .result) ≡ cond b (some (wordOf c e)) (s .actions (e - 8) .result)
       step true x = refl
       step false x = K .values (given (e - 8)) x
 
-  pub carry : barred (t .proc) (kindOf (self s t)) (s′ .holders (input s t 0)) ≡ false → (reading (kindOf (self s t)) && not (visible c s′ (self s t .loc) (item t) (t .source))) ≡ false → CanTake c s′ t
+  pub carry : barred (t .proc) (kindOf (self s t)) (s′ .holders (input s t 0)) ≡ false
+      → (reading (kindOf (self s t)) && not (visible c s′ (self s t .loc) (item t) (t .source))) ≡ false → CanTake c s′ t
   carry ho se =
       record {
         proc = h .proc;

@@ -127,8 +127,12 @@ module _ (c : Case) (s : State) (K : Known c s) where
 
   key-in : (a : Key) → stepCode c s (stepBy s a) ≡ 0 → List·Memᴰ a (keys c s)
   unfolding keys
-  key-in (taking k e) h = Memᴰ·append-left (map issuing (counting 0 (c .procs))) (concatMap-make (keysOf s) (counting-mem (s .count) 0 k (omega arith) (omega (arith, can-commit c s (s .actions k .proc) k e h .there))) (source-in k e h))
-  key-in (issuing p) h = Memᴰ·append-right (concatMap (keysOf s) (counting 0 (s .count))) (Memᴰ·map issuing (counting-mem (c .procs) 0 p (omega arith) (omega (arith, can-issue c s p h .proc))))
+  key-in (taking k e) h =
+      Memᴰ·append-left (map issuing (counting 0 (c .procs)))
+      (concatMap-make (keysOf s) (counting-mem (s .count) 0 k (omega arith) (omega (arith, can-commit c s (s .actions k .proc) k e h .there))) (source-in k e h))
+  key-in (issuing p) h =
+      Memᴰ·append-right (concatMap (keysOf s) (counting 0 (s .count)))
+      (Memᴰ·map issuing (counting-mem (c .procs) 0 p (omega arith) (omega (arith, can-issue c s p h .proc))))
 
   -- where no accepted step is sure, each may be spent
   all-restful : (n : ℕ) → first (isSure c n s) (keys c s) ≡ none → (a : Key) → stepCode c s (stepBy s a) ≡ 0 → restful s a ≡ true
@@ -180,9 +184,12 @@ module _ (c : Case) (Z : Sized c) (s : State) (sp : Spent) (K : Known c s) (n : 
           (λ b x. ⊎-elim (λ e. inl e) (λ e. inr (same-key b a e)) (or-cases (now b) (sameKey b a) x))
 
       spent : (accepts c s a && not (now a)) ≡ false → stepCode c s t ≡ 0 → now a ≡ true
-      spent x h = ⊎-elim (λ e. e) (λ e. absurd (false≢true (sym x ∙ and-make (accepts c s a) (not (now a)) (eq-eqb _ 0 h) (ap not e)))) (decide (now a))
+      spent x h =
+          ⊎-elim (λ e. e) (λ e. absurd (false≢true (sym x ∙ and-make (accepts c s a) (not (now a)) (eq-eqb _ 0 h) (ap not e)))) (decide (now a))
 
-      step : (b : Bool) → (accepts c s a && not (now a)) ≡ b → Eached now l (each c deeper s now l y) → (stepCode c s t ≡ 0 → Eached (noted a now) l (each c deeper s (noted a now) l then′)) → Eached now (a ∷ l) (cond b (each c deeper s (noted a now) l then′) (each c deeper s now l y))
+      step : (b : Bool) → (accepts c s a && not (now a)) ≡ b → Eached now l (each c deeper s now l y)
+          → (stepCode c s t ≡ 0 → Eached (noted a now) l (each c deeper s (noted a now) l then′))
+          → Eached now (a ∷ l) (cond b (each c deeper s (noted a now) l then′) (each c deeper s now l y))
       step true x skip more =
           let E = more (eqb-true (stepCode c s t) 0 (and-both (accepts c s a) (not (now a)) x .0)) in
           record {
@@ -239,7 +246,8 @@ module _ (c : Case) (Z : Sized c) where
     S : Sweep c sp s n sp (Holds y) (Holds y)
     S = sweep-start c Z s sp K n R
 
-    by-sure : (a : Key) → isSure c (suc n) s a ≡ true → Told c sp s (suc n) (Holds y) (Holds (cond (asleep sp (stepBy s a)) y (deeper (after c s (stepBy s a)) (unwoken s (stepBy s a) sp) y)))
+    by-sure : (a : Key) → isSure c (suc n) s a ≡ true
+        → Told c sp s (suc n) (Holds y) (Holds (cond (asleep sp (stepBy s a)) y (deeper (after c s (stepBy s a)) (unwoken s (stepBy s a) sp) y)))
     by-sure a p = step (asleep sp t) refl
       where
         t : Step
@@ -256,7 +264,8 @@ module _ (c : Case) (Z : Sized c) where
 
         step : (b : Bool) → asleep sp t ≡ b → Told c sp s (suc n) (Holds y) (Holds (cond b y (deeper (after c s t) z y)))
         step true e = told-dead c Z s sp K n t h q e
-        step false e = told-alone c Z s sp K n t h q R z (unwoken-calm s t sp) (right t z y h (rested-after c Z s sp K n R t h z (unwoken-calm s t sp)))
+        step false e =
+            told-alone c Z s sp K n t h q R z (unwoken-calm s t sp) (right t z y h (rested-after c Z s sp K n R t h z (unwoken-calm s t sp)))
 
     module _ (rest : (a : Key) → stepCode c s (stepBy s a) ≡ 0 → restful s a ≡ true) where
       by-quiet : (k e : ℕ) → isQuiet c s (taking k e) ≡ true → Told c sp s (suc n) (Holds y) (Holds (each c deeper s sp (keysOf s k) y .tally))
@@ -270,7 +279,8 @@ module _ (c : Case) (Z : Sized c) where
           let E = eached c Z s sp K n (Holds y) deeper right rest sp (keys c s) y S in
           told-all c Z s sp K n (E .sweep) f (λ a h. inl (E .done a (key-in c s K a h) h))
 
-    node-told : (a b : Option Key) → first (isSure c (suc n) s) (keys c s) ≡ a → first (isQuiet c s) (keys c s) ≡ b → Told c sp s (suc n) (Holds y) (Holds (picked c deeper s sp y a b))
+    node-told : (a b : Option Key) → first (isSure c (suc n) s) (keys c s) ≡ a → first (isQuiet c s) (keys c s) ≡ b
+        → Told c sp s (suc n) (Holds y) (Holds (picked c deeper s sp y a b))
     node-told (some a) b p q = by-sure a (first-passes (isSure c (suc n) s) (keys c s) a p)
     node-told none (some (taking k e)) p q = by-quiet (all-restful c s K (suc n) p) k e (first-passes (isQuiet c s) (keys c s) (taking k e) q)
     node-told none (some (issuing r)) p q = absurd (false≢true (first-passes (isQuiet c s) (keys c s) (issuing r) q))
@@ -281,15 +291,22 @@ module _ (c : Case) (Z : Sized c) where
   visit-told zero s sp y K R = step (finished c s) refl
     where
       step : (b : Bool) → finished c s ≡ b → Told c sp s zero (Holds y) (Holds (cond b (with-outcome (registers c s) y) (with-mark y)))
-      step true f = told-end c s sp (Holds y) (Holds (with-outcome (registers c s) y)) (end-kept y (registers c s)) zero f (end-new y (registers c s)) (List·Memᴰ·head refl)
+      step true f =
+          told-end c s sp (Holds y) (Holds (with-outcome (registers c s) y)) (end-kept y (registers c s)) zero f (end-new y (registers c s))
+          (List·Memᴰ·head refl)
       step false f = told-bound c s sp (Holds y) (Holds (with-mark y)) (mark-kept y) f (mark-new y) refl
-  visit-told (suc n) s sp y K R = step (finished c s) refl (λ f. node-told n (visit c n) s sp y K R f (λ t z x h R′. visit-told n (after c s t) z x (known-after c s t K h) R′) (first (isSure c (suc n) s) (keys c s)) (first (isQuiet c s) (keys c s)) refl refl)
+  visit-told (suc n) s sp y K R =
+      step (finished c s) refl
+      (λ f. node-told n (visit c n) s sp y K R f (λ t z x h R′. visit-told n (after c s t) z x (known-after c s t K h) R′) (first (isSure c (suc n) s) (keys c s)) (first (isQuiet c s) (keys c s)) refl refl)
     where
       node : Tally
       node = picked c (visit c n) s sp y (first (isSure c (suc n) s) (keys c s)) (first (isQuiet c s) (keys c s))
 
-      step : (b : Bool) → finished c s ≡ b → (finished c s ≡ false → Told c sp s (suc n) (Holds y) (Holds node)) → Told c sp s (suc n) (Holds y) (Holds (cond b (with-outcome (registers c s) y) node))
-      step true f more = told-end c s sp (Holds y) (Holds (with-outcome (registers c s) y)) (end-kept y (registers c s)) (suc n) f (end-new y (registers c s)) (List·Memᴰ·head refl)
+      step : (b : Bool) → finished c s ≡ b → (finished c s ≡ false → Told c sp s (suc n) (Holds y) (Holds node))
+          → Told c sp s (suc n) (Holds y) (Holds (cond b (with-outcome (registers c s) y) node))
+      step true f more =
+          told-end c s sp (Holds y) (Holds (with-outcome (registers c s) y)) (end-kept y (registers c s)) (suc n) f (end-new y (registers c s))
+          (List·Memᴰ·head refl)
       step false f more = more f
 
   empty : Tally

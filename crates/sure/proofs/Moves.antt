@@ -43,7 +43,8 @@ unfolding issued
 count-two c s p q = omega arith
 
 module _ (c : Case) (s : State) where
-  pub commits-move : (t u : Commit) → CanTake c (committedBy c s u) t → CanTake c (committedBy c s t) u → committedBy c (committedBy c s u) t ≡ committedBy c (committedBy c s t) u → Moves c s (asStep t) (asStep u)
+  pub commits-move : (t u : Commit) → CanTake c (committedBy c s u) t → CanTake c (committedBy c s t) u
+      → committedBy c (committedBy c s u) t ≡ committedBy c (committedBy c s t) u → Moves c s (asStep t) (asStep u)
   commits-move t u T U m =
       record {
         still = rw (after-take c s u) (take-ok c (committedBy c s u) t T);
@@ -63,7 +64,8 @@ module _ (c : Case) (s : State) where
         }
 
     -- two issues, where there is room for two
-    pub issues-pass : (p q : ℕ) → stepCode c s (issue p) ≡ 0 → stepCode c s (issue q) ≡ 0 → (p ≡ q → ⊥) → leb 48 (suc (s .count)) ≡ false → Passes c s (issue p) (issue q)
+    pub issues-pass : (p q : ℕ) → stepCode c s (issue p) ≡ 0 → stepCode c s (issue q) ≡ 0 → (p ≡ q → ⊥) → leb 48 (suc (s .count)) ≡ false
+        → Passes c s (issue p) (issue q)
     issues-pass p q h g d space =
         record {
           still = rw (after-issue c s q) (issue-ok c (issued c s q) p (issue-issue c s q p G J I d′ space));
@@ -81,4 +83,8 @@ module _ (c : Case) (s : State) where
         d′ e = d (sym e)
 
         pair : Pair (s .count) (issued c (issued c s q) p)
-        pair = record { there = count-two c s q p; differ = λ e. d′ (ap (λ (a : Action). a .proc) (sym (at-first c s q p G J I d′)) ∙ e ∙ ap (λ (a : Action). a .proc) (at-second c s q p G J I d′)) }
+        pair =
+            record {
+              there = count-two c s q p;
+              differ = λ e. d′ (ap (λ (a : Action). a .proc) (sym (at-first c s q p G J I d′)) ∙ e ∙ ap (λ (a : Action). a .proc) (at-second c s q p G J I d′));
+            }

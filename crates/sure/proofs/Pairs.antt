@@ -34,9 +34,11 @@ names-low n [] b = refl
 names-low n (x ∷ l) b = ap₂ (λ (y : Name) (m : List Name). y ∷ m) (name-low n x (b .0)) (names-low n l (b .1))
 
 action-low : (n : ℕ) (a : Action) → AllBelow n (a .inputs) → swapAction n a ≡ a
-action-low n a b = λ i. record { proc = a .proc; place = a .place; instr = a .instr; inputs = names-low n (a .inputs) b i; loc = a .loc; result = a .result }
+action-low n a b =
+    λ i. record { proc = a .proc; place = a .place; instr = a .instr; inputs = names-low n (a .inputs) b i; loc = a .loc; result = a .result }
 
-renamed-to : (n i j : ℕ) → swap n i ≡ j → (f : ℕ → Name) → ((k : ℕ) → Below n (f k)) → (o : Option ℕ) (k : ℕ) → renamed f o (given j) k ≡ swapName n (renamed f o (given i) k)
+renamed-to : (n i j : ℕ) → swap n i ≡ j → (f : ℕ → Name) → ((k : ℕ) → Below n (f k)) → (o : Option ℕ) (k : ℕ)
+    → renamed f o (given j) k ≡ swapName n (renamed f o (given i) k)
 renamed-to n i j e f b none k = sym (name-low n (f k) (b k))
 renamed-to n i j e f b (some d) k = step (eqb k d)
   where
@@ -75,7 +77,9 @@ module _ (c : Case) (s : State) (p q : ℕ) (G : Good s) (I : CanIssue c s p) (J
 
   names-second : issued c (issued c s p) q .names q ≡ renamed (s .names q) (assigns (next c s q)) (given (suc (s .count)))
   unfolding issued
-  names-second = put-same (issued c s p .names) q q _ refl ∙ ap₂ (λ (f : ℕ → Name) (i : Instr). renamed f (assigns i) (given (suc (s .count)))) (stays .names) (next-same c s (issued c s p) q stays J)
+  names-second =
+      put-same (issued c s p .names) q q _ refl
+      ∙ ap₂ (λ (f : ℕ → Name) (i : Instr). renamed f (assigns i) (given (suc (s .count)))) (stays .names) (next-same c s (issued c s p) q stays J)
 
   names-first : issued c (issued c s p) q .names p ≡ renamed (s .names p) (assigns (next c s p)) (given (s .count))
   unfolding issued
@@ -86,20 +90,28 @@ module _ (c : Case) (s : State) (p q : ℕ) (G : Good s) (I : CanIssue c s p) (J
   names-old r x y = put-other (issued c s p .names) q r _ y ∙ put-other (s .names) p r _ x
 
   earlier-kept : (l e : ℕ) → e < 8 + suc (s .count) → earlier c (issued c s p) q l e ≡ true → (e < 8 + s .count) × (earlier c s q l e ≡ true)
-  earlier-kept l e h r = ⊎-elim (λ x. absurd (mine (eqb-true _ _ x))) (λ x. (omega (arith, eqb-false e (8 + s .count) x), sym (item-old c s p (eqb e l) f e (eqb-false _ _ x)) ∙ r)) (decide (eqb e (8 + s .count)))
+  earlier-kept l e h r =
+      ⊎-elim (λ x. absurd (mine (eqb-true _ _ x)))
+      (λ x. (omega (arith, eqb-false e (8 + s .count) x), sym (item-old c s p (eqb e l) f e (eqb-false _ _ x)) ∙ r))
+      (decide (eqb e (8 + s .count)))
     where
       f : Action → Bool
       f a = eqb (a .proc) q && standsAt l a
 
       mine : e ≡ 8 + s .count → ⊥
-      mine x = d (eqb-true p q (and-both (eqb p q) (standsAt l (newAction c s p)) (ap f (sym (issued-new c s p)) ∙ sym (item-high (eqb e l) f (issued c s p) (s .count) e x) ∙ r) .0))
+      mine x =
+          d
+          (eqb-true p q (and-both (eqb p q) (standsAt l (newAction c s p)) (ap f (sym (issued-new c s p)) ∙ sym (item-high (eqb e l) f (issued c s p) (s .count) e x) ∙ r) .0))
 
   -- the order after both
-  orders-after : (l : ℕ) → issued c (issued c s p) q .orders l ≡ joinedIf (ltb l (c .locs) && standsAt l (newAction c s q)) (joinedIf (ltb l (c .locs) && standsAt l (newAction c s p)) (s .orders l) (8 + s .count) (8 + s .count) (earlier c s p l)) (8 + suc (s .count)) (8 + s .count) (earlier c s q l)
+  orders-after : (l : ℕ)
+      → issued c (issued c s p) q .orders l ≡ joinedIf (ltb l (c .locs) && standsAt l (newAction c s q)) (joinedIf (ltb l (c .locs) && standsAt l (newAction c s p)) (s .orders l) (8 + s .count) (8 + s .count) (earlier c s p l)) (8 + suc (s .count)) (8 + s .count) (earlier c s q l)
   unfolding issued
   orders-after l =
       ap (λ (a : Action). joinedIf (ltb l (c .locs) && standsAt l a) (issued c s p .orders l) (8 + suc (s .count)) (8 + suc (s .count)) (earlier c (issued c s p) q l)) new
-      ∙ joinedIf-ext (ltb l (c .locs) && standsAt l (newAction c s q)) (issued c s p .orders l) (8 + suc (s .count)) (8 + suc (s .count)) (8 + s .count) (earlier c (issued c s p) q l) (earlier c s q l) (earlier-kept l) (λ e h r. (omega arith, item-old c s p (eqb e l) (λ a. eqb (a .proc) q && standsAt l a) e (λ x. omega arith) ∙ r))
+      ∙ joinedIf-ext (ltb l (c .locs) && standsAt l (newAction c s q)) (issued c s p .orders l) (8 + suc (s .count)) (8 + suc (s .count)) (8 + s .count)
+      (earlier c (issued c s p) q l) (earlier c s q l) (earlier-kept l)
+      (λ e h r. (omega arith, item-old c s p (eqb e l) (λ a. eqb (a .proc) q && standsAt l a) e (λ x. omega arith) ∙ r))
 
 module _ (c : Case) (s : State) (p q : ℕ) (G : Good s) (I : CanIssue c s p) (J : CanIssue c s q) (d : p ≡ q → ⊥) where
   d′ : q ≡ p → ⊥
@@ -111,12 +123,21 @@ module _ (c : Case) (s : State) (p q : ℕ) (G : Good s) (I : CanIssue c s p) (J
   same-actions : (k : ℕ) → issued c (issued c s p) q .actions k ≡ swapAction (s .count) (issued c (issued c s q) p .actions (swap (s .count) k))
   same-actions k = step (view (s .count) k)
     where
-      other : (j : ℕ) (a : Action) → swap (s .count) k ≡ j → issued c (issued c s q) p .actions j ≡ a → AllBelow (s .count) (a .inputs) → swapAction (s .count) (issued c (issued c s q) p .actions (swap (s .count) k)) ≡ a
-      other j a e h b = ap (λ (i : ℕ). swapAction (s .count) (issued c (issued c s q) p .actions i)) e ∙ ap (swapAction (s .count)) h ∙ action-low (s .count) a b
+      other : (j : ℕ) (a : Action) → swap (s .count) k ≡ j → issued c (issued c s q) p .actions j ≡ a → AllBelow (s .count) (a .inputs)
+          → swapAction (s .count) (issued c (issued c s q) p .actions (swap (s .count) k)) ≡ a
+      other j a e h b =
+          ap (λ (i : ℕ). swapAction (s .count) (issued c (issued c s q) p .actions i)) e ∙ ap (swapAction (s .count)) h ∙ action-low (s .count) a b
 
-      step : View (s .count) k (swap (s .count) k) → issued c (issued c s p) q .actions k ≡ swapAction (s .count) (issued c (issued c s q) p .actions (swap (s .count) k))
-      step (up a b) = ap (issued c (issued c s p) q .actions) a ∙ at-first c s p q G I J d ∙ sym (other (suc (s .count)) (newAction c s p) b (at-second c s q p G J I d′) (inputs-new p))
-      step (down a b) = ap (issued c (issued c s p) q .actions) a ∙ at-second c s p q G I J d ∙ sym (other (s .count) (newAction c s q) b (at-first c s q p G J I d′) (inputs-new q))
+      step : View (s .count) k (swap (s .count) k)
+          → issued c (issued c s p) q .actions k ≡ swapAction (s .count) (issued c (issued c s q) p .actions (swap (s .count) k))
+      step (up a b) =
+          ap (issued c (issued c s p) q .actions) a
+          ∙ at-first c s p q G I J d
+          ∙ sym (other (suc (s .count)) (newAction c s p) b (at-second c s q p G J I d′) (inputs-new p))
+      step (down a b) =
+          ap (issued c (issued c s p) q .actions) a
+          ∙ at-second c s p q G I J d
+          ∙ sym (other (s .count) (newAction c s q) b (at-first c s q p G J I d′) (inputs-new q))
       step (stay x y b) = at-old c s p q G I J d k x y ∙ sym (other k (s .actions k) b (at-old c s q p G J I d′ k x y) (G .inputs k))
 
   same-places : issued c (issued c s p) q .places ≡ issued c (issued c s q) p .places
@@ -124,22 +145,33 @@ module _ (c : Case) (s : State) (p q : ℕ) (G : Good s) (I : CanIssue c s p) (J
   same-places =
       ap₂ (λ (i : Instr) (o : Option ℕ). put (issued c s p .places) q (placeAfter i (orZero o))) (next-same c s (issued c s p) q (stays c s p q G I J d) J) (stays c s p q G I J d .places)
       ∙ put-swap (s .places) p q (placeAfter (next c s p) (here c s p)) (placeAfter (next c s q) (here c s q)) d
-      ∙ sym (ap₂ (λ (i : Instr) (o : Option ℕ). put (issued c s q .places) p (placeAfter i (orZero o))) (next-same c s (issued c s q) p (stays c s q p G J I d′) I) (stays c s q p G J I d′ .places))
+      ∙ sym
+      (ap₂ (λ (i : Instr) (o : Option ℕ). put (issued c s q .places) p (placeAfter i (orZero o))) (next-same c s (issued c s q) p (stays c s q p G J I d′) I) (stays c s q p G J I d′ .places))
 
   same-names : (r k : ℕ) → issued c (issued c s p) q .names r k ≡ swapName (s .count) (issued c (issued c s q) p .names r k)
-  same-names r k = ⊎-elim (λ x. at-p (eqb-true r p x)) (λ x. ⊎-elim (λ y. at-q (eqb-true r q y)) (λ y. at-r (eqb-false r p x) (eqb-false r q y)) (decide (eqb r q))) (decide (eqb r p))
+  same-names r k =
+      ⊎-elim (λ x. at-p (eqb-true r p x))
+      (λ x. ⊎-elim (λ y. at-q (eqb-true r q y)) (λ y. at-r (eqb-false r p x) (eqb-false r q y)) (decide (eqb r q)))
+      (decide (eqb r p))
     where
       Goal : ℕ → Type 0
       Goal r = issued c (issued c s p) q .names r k ≡ swapName (s .count) (issued c (issued c s q) p .names r k)
 
       at-p : r ≡ p → Goal r
-      at-p e = subst Goal (sym e) (ap (λ (f : ℕ → Name). f k) (names-first c s p q G I J d) ∙ renamed-to (s .count) (suc (s .count)) (s .count) (swap-next (s .count) (suc (s .count)) refl) (s .names p) (G .named p) (assigns (next c s p)) k ∙ ap (λ (f : ℕ → Name). swapName (s .count) (f k)) (sym (names-second c s q p G J I d′)))
+      at-p e =
+          subst Goal (sym e)
+          (ap (λ (f : ℕ → Name). f k) (names-first c s p q G I J d) ∙ renamed-to (s .count) (suc (s .count)) (s .count) (swap-next (s .count) (suc (s .count)) refl) (s .names p) (G .named p) (assigns (next c s p)) k ∙ ap (λ (f : ℕ → Name). swapName (s .count) (f k)) (sym (names-second c s q p G J I d′)))
 
       at-q : r ≡ q → Goal r
-      at-q e = subst Goal (sym e) (ap (λ (f : ℕ → Name). f k) (names-second c s p q G I J d) ∙ renamed-to (s .count) (s .count) (suc (s .count)) (swap-at (s .count) (s .count) refl) (s .names q) (G .named q) (assigns (next c s q)) k ∙ ap (λ (f : ℕ → Name). swapName (s .count) (f k)) (sym (names-first c s q p G J I d′)))
+      at-q e =
+          subst Goal (sym e)
+          (ap (λ (f : ℕ → Name). f k) (names-second c s p q G I J d) ∙ renamed-to (s .count) (s .count) (suc (s .count)) (swap-at (s .count) (s .count) refl) (s .names q) (G .named q) (assigns (next c s q)) k ∙ ap (λ (f : ℕ → Name). swapName (s .count) (f k)) (sym (names-first c s q p G J I d′)))
 
       at-r : (r ≡ p → ⊥) → (r ≡ q → ⊥) → Goal r
-      at-r x y = ap (λ (f : ℕ → Name). f k) (names-old c s p q G I J d r x y) ∙ sym (name-low (s .count) (s .names r k) (G .named r k)) ∙ ap (λ (f : ℕ → Name). swapName (s .count) (f k)) (sym (names-old c s q p G J I d′ r y x))
+      at-r x y =
+          ap (λ (f : ℕ → Name). f k) (names-old c s p q G I J d r x y)
+          ∙ sym (name-low (s .count) (s .names r k) (G .named r k))
+          ∙ ap (λ (f : ℕ → Name). swapName (s .count) (f k)) (sym (names-old c s q p G J I d′ r y x))
 
   same-orders : (l : ℕ) → issued c (issued c s p) q .orders l ≡ swapOrder (8 + s .count) (issued c (issued c s q) p .orders l)
   same-orders l =

@@ -39,7 +39,8 @@ module _ (c : Case) (s : State) (G : Good s) (F : Firm s) (t : Commit) (h : step
   T = can-take c s t h
 
   read-commit : (u : Commit) → stepCode c s (asStep u) ≡ 0 → (t .action ≡ u .action → ⊥) → Moves c s (asStep t) (asStep u)
-  read-commit u g d = commits-move c s t u still (can-after c s u t U T (turned c s t u A) (k .1)) (sym (commits-meet c s u t U T (turned c s t u A) (k .1)))
+  read-commit u g d =
+      commits-move c s t u still (can-after c s u t U T (turned c s t u A) (k .1)) (sym (commits-meet c s u t U T (turned c s t u A) (k .1)))
     where
       U : CanTake c s u
       U = can-take c s u g
@@ -71,7 +72,8 @@ module _ (c : Case) (s : State) (G : Good s) (F : Firm s) (t : Commit) (h : step
     O = can-take c s u g
 
     -- neither is a read
-    unread : Apart c s t u → reading (kindOf (self s u)) ≡ false → committedBy c (committedBy c s u) t ≡ committedBy c (committedBy c s t) u → Moves c s (asStep t) (asStep u)
+    unread : Apart c s t u → reading (kindOf (self s u)) ≡ false → committedBy c (committedBy c s u) t ≡ committedBy c (committedBy c s t) u
+        → Moves c s (asStep t) (asStep u)
     unread A r m = commits-move c s t u (unread-after c s t u W O A (k .1)) (unread-after c s u t O W (turned c s t u A) r) m
 
     past-read : reading (kindOf (self s u)) ≡ true → Moves c s (asStep t) (asStep u)
@@ -90,9 +92,11 @@ module _ (c : Case) (s : State) (G : Good s) (F : Firm s) (t : Commit) (h : step
         unread A r (commits-meet c s t u W O A b)
 
     acquire-commit : rivals s (self s u) (self s t) ≡ false → Moves c s (asStep t) (asStep u)
-    acquire-commit x = ⊎-elim past-read (λ r. ⊎-elim (past-other x) (past-sure r) (decide (acquiring (kindOf (self s u))))) (decide (reading (kindOf (self s u))))
+    acquire-commit x =
+        ⊎-elim past-read (λ r. ⊎-elim (past-other x) (past-sure r) (decide (acquiring (kindOf (self s u))))) (decide (reading (kindOf (self s u))))
 
-  pub acquire-moves : (u : Step) → stepCode c s u ≡ 0 → Elsewhere (t .action) u → wakes s u (taking (t .action) (t .source)) ≡ false → Moves c s (asStep t) u
+  pub acquire-moves : (u : Step) → stepCode c s u ≡ 0 → Elsewhere (t .action) u → wakes s u (taking (t .action) (t .source)) ≡ false
+      → Moves c s (asStep t) u
   acquire-moves (issue q) g d x = commit-moves c s G t h q g
   acquire-moves (commit q j e) g d x = acquire-commit (the q j e) g d x
   acquire-moves neither g d x = absurd (neither-no c s g)
@@ -112,7 +116,12 @@ pub record Keyed (s : State) (t : Step) : Type 0 where
 
 pub keyed : (c : Case) (s : State) (t : Step) → stepCode c s t ≡ 0 → Keyed s t
 keyed c s (issue p) h = record { key = issuing p; names = refl; sleeps = λ sp. refl }
-keyed c s (commit p k e) h = record { key = taking k e; names = ap (λ (q : ℕ). commit q k e) (sym (waits-proc p (s .actions k) (can-commit c s p k e h .waits))); sleeps = λ sp. refl }
+keyed c s (commit p k e) h =
+    record {
+      key = taking k e;
+      names = ap (λ (q : ℕ). commit q k e) (sym (waits-proc p (s .actions k) (can-commit c s p k e h .waits)));
+      sleeps = λ sp. refl;
+    }
 keyed c s neither h = absurd (neither-no c s h)
 
 -- action k is a read or an acquire, and while it is in the queue its commit from e is accepted
@@ -200,11 +209,14 @@ module _ (c : Case) (s : State) (G : Good s) (F : Firm s) where
       rested-step (issuing p) x = left-issue p (R (issuing p) x) (N (issuing p) x) .passes .still
 
       left : (a : Key) → sp a ≡ true → stepCode c (after c s u) (stepBy (after c s u) a) ≡ 0 → Left a
-      left (taking k e) x h = left-commit k e (R (taking k e) x) (N (taking k e) x) (waits-none (after c s u .actions k .proc) (after c s u .actions k) (can-commit c (after c s u) (after c s u .actions k .proc) k e h .waits))
+      left (taking k e) x h =
+          left-commit k e (R (taking k e) x) (N (taking k e) x)
+          (waits-none (after c s u .actions k .proc) (after c s u .actions k) (can-commit c (after c s u) (after c s u .actions k .proc) k e h .waits))
       left (issuing p) x h = left-issue p (R (issuing p) x) (N (issuing p) x)
 
       -- a spent step after u moves to the front
-      pub to-front : (P : State → ℕ → Type 0) → ((x : State) (n : ℕ) → stepCode c x u ≡ 0 → P (after c x u) n → P x (suc n)) → ((a b : State) (n : ℕ) → Alike a b → P a n → P b n) → (n : ℕ) → Else c sp P (after c s u) n → Through c sp (λ x. P x n) s
+      pub to-front : (P : State → ℕ → Type 0) → ((x : State) (n : ℕ) → stepCode c x u ≡ 0 → P (after c x u) n → P x (suc n))
+          → ((a b : State) (n : ℕ) → Alike a b → P a n → P b n) → (n : ℕ) → Else c sp P (after c s u) n → Through c sp (λ x. P x n) s
       to-front P later alike zero o = absurd o
       to-front P later alike (suc n) o =
           let L = left (o .key) (o .rests) (o .fits) in

@@ -34,14 +34,18 @@ pub data IsSureCommit (c : Case) (s : State) : Step → Type 0 where
 
 -- a lock held by one is not to be had by another
 hold-owner : (p : ℕ) (k : ℕ) (m : ℕ) → syncs k ≡ true → barred p k (some m) ≡ false → m ≡ p
-hold-owner p k m h r = ⊎-elim (λ e. eqb-true m p e) (λ e. absurd (false≢true (sym r ∙ and-make ((acquiring k && true) || releasing k) (not (eqb m p)) (busy (acquiring k) (releasing k) h) (ap not e)))) (decide (eqb m p))
+hold-owner p k m h r =
+    ⊎-elim (λ e. eqb-true m p e)
+    (λ e. absurd (false≢true (sym r ∙ and-make ((acquiring k && true) || releasing k) (not (eqb m p)) (busy (acquiring k) (releasing k) h) (ap not e))))
+    (decide (eqb m p))
   where
     busy : (a b : Bool) → (a || b) ≡ true → ((a && true) || b) ≡ true
     busy true b e = refl
     busy false b e = e
 
 hold-one : (p q : ℕ) (k j : ℕ) (h : Option ℕ) → releasing k ≡ true → syncs j ≡ true → barred p k h ≡ false → barred q j h ≡ false → p ≡ q
-hold-one p q k j none r e x y = absurd (false≢true (sym x ∙ and-make ((acquiring k && false) || releasing k) true (or-right (acquiring k && false) (releasing k) r) refl))
+hold-one p q k j none r e x y =
+    absurd (false≢true (sym x ∙ and-make ((acquiring k && false) || releasing k) true (or-right (acquiring k && false) (releasing k) r) refl))
 hold-one p q k j (some m) r e x y = sym (hold-owner p k m (or-right (acquiring k) (releasing k) r) x) ∙ hold-owner q j m e y
 
 module _ (c : Case) (s : State) (t : Commit) (G : Good s) (S : SureCommit c s t) where
@@ -68,13 +72,18 @@ module _ (c : Case) (s : State) (t : Commit) (G : Good s) (S : SureCommit c s t)
 
     module _ (d : t .action ≡ u .action → ⊥) where
       locks : syncs (kindOf (self s t)) ≡ true → syncs (kindOf (self s u)) ≡ true → input s t 0 ≡ input s u 0 → ⊥
-      locks e q x = ⊎-elim (λ p. queue (eqb-true (t .proc) (u .proc) p)) (λ p. eqb-false (t .proc) (u .proc) p owner) (decide (eqb (t .proc) (u .proc)))
+      locks e q x =
+          ⊎-elim (λ p. queue (eqb-true (t .proc) (u .proc) p)) (λ p. eqb-false (t .proc) (u .proc) p owner) (decide (eqb (t .proc) (u .proc)))
         where
           rel : releasing (kindOf (self s t)) ≡ true
-          rel = ⊎-elim (λ a. absurd (false≢true (sym unacquired ∙ a))) (λ r. r) (or-cases (acquiring (kindOf (self s t))) (releasing (kindOf (self s t))) e)
+          rel =
+              ⊎-elim (λ a. absurd (false≢true (sym unacquired ∙ a))) (λ r. r)
+              (or-cases (acquiring (kindOf (self s t))) (releasing (kindOf (self s t))) e)
 
           owner : t .proc ≡ u .proc
-          owner = hold-one (t .proc) (u .proc) (kindOf (self s t)) (kindOf (self s u)) (s .holders (input s t 0)) rel q (T .allowed) (subst (λ (l : ℕ). barred (u .proc) (kindOf (self s u)) (s .holders l) ≡ false) (sym x) (U .allowed))
+          owner =
+              hold-one (t .proc) (u .proc) (kindOf (self s t)) (kindOf (self s u)) (s .holders (input s t 0)) rel q (T .allowed)
+              (subst (λ (l : ℕ). barred (u .proc) (kindOf (self s u)) (s .holders l) ≡ false) (sym x) (U .allowed))
 
           queue : t .proc ≡ u .proc → ⊥
           queue p =
@@ -84,10 +93,21 @@ module _ (c : Case) (s : State) (t : Commit) (G : Good s) (S : SureCommit c s t)
               (decide (ltb (u .action) (t .action)))
 
       turning : (v : Commit) → CanTake c s v → branching (kindOf (self s v)) ≡ true → Turning s (v .proc) (v .action)
-      turning v C b = record { there = C .there; mine = waits-proc (v .proc) (self s v) (C .waits); waits = waits-none (v .proc) (self s v) (C .waits); turns = b }
+      turning v C b =
+          record {
+            there = C .there;
+            mine = waits-proc (v .proc) (self s v) (C .waits);
+            waits = waits-none (v .proc) (self s v) (C .waits);
+            turns = b;
+          }
 
       pub apart : Apart c s t u
-      apart = record { differ = d; locks = locks; lone = λ a b e. d (G .alone (u .proc) (t .action) (u .action) (subst (λ (p : ℕ). Turning s p (t .action)) e (turning t T a)) (turning u U b)) }
+      apart =
+          record {
+            differ = d;
+            locks = locks;
+            lone = λ a b e. d (G .alone (u .proc) (t .action) (u .action) (subst (λ (p : ℕ). Turning s p (t .action)) e (turning t T a)) (turning u U b));
+          }
 
       commit-diamond : Diamond c (λ n. Good) (IsSureCommit c) _≡_ s (asStep t) (asStep u)
       commit-diamond =
@@ -102,7 +122,10 @@ module _ (c : Case) (s : State) (t : Commit) (G : Good s) (S : SureCommit c s t)
 
   pub diamond : (u : Step) → stepCode c s u ≡ 0 → (u ≡ asStep t) ⊎ Diamond c (λ n. Good) (IsSureCommit c) _≡_ s (asStep t) u
   diamond (issue q) h = inr (issue-diamond q h)
-  diamond (commit p k e) h = ⊎-elim (λ x. inl (one (the p k e) h (eqb-true _ _ x))) (λ x. inr (commit-diamond (the p k e) h (λ y. eqb-false _ _ x (sym y)))) (decide (eqb k (t .action)))
+  diamond (commit p k e) h =
+      ⊎-elim (λ x. inl (one (the p k e) h (eqb-true _ _ x)))
+      (λ x. inr (commit-diamond (the p k e) h (λ y. eqb-false _ _ x (sym y))))
+      (decide (eqb k (t .action)))
   diamond neither h = absurd (neither-no c s h)
 
 module _ (c : Case) where

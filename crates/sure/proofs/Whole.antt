@@ -56,7 +56,10 @@ count-after c s (commit p k e) = let h = count-commit c s (the p k e) in (omega 
 count-after c s neither = (omega arith, omega arith)
 
 not-at-end : (c : Case) (s s′ : State) (p : ℕ) → s′ .places p ≡ s .places p → CanIssue c s p → p < c .procs → finished c s′ ≡ false
-not-at-end c s s′ p e I h = ⊎-elim (λ f. absurd (omega (arith, leb-false (countOf c p) (orZero (s .places p)) (I .inside), still c s′ f p h .1, ap orZero e))) (λ f. f) (decide (finished c s′))
+not-at-end c s s′ p e I h =
+    ⊎-elim
+    (λ f. absurd (omega (arith, leb-false (countOf c p) (orZero (s .places p)) (I .inside), still c s′ f p h .1, ap orZero e)))
+    (λ f. f) (decide (finished c s′))
 
 module _ (c : Case) where
   taken : (s : State) (t : Step) → IsSure c s t → stepCode c s t ≡ 0
@@ -68,14 +71,17 @@ module _ (c : Case) where
     I = can-issue c s p h
 
     past-commit : (u : Commit) → stepCode c s (asStep u) ≡ 0 → Diamond c (Fine c) (IsSure c) Alike s (issue p) (asStep u)
-    past-commit u k = let M = other-way (commit-moves c s G u k p h) in record { still = sure-issue p (M .still); other = asStep u; fits = M .fits; meets = same (M .meets) }
+    past-commit u k =
+        let M = other-way (commit-moves c s G u k p h) in
+        record { still = sure-issue p (M .still); other = asStep u; fits = M .fits; meets = same (M .meets) }
 
     module _ (q : ℕ) (k : stepCode c s (issue q) ≡ 0) (d : p ≡ q → ⊥) where
       J : CanIssue c s q
       J = can-issue c s q k
 
       past-issue : leb 48 (suc (s .count)) ≡ false → Diamond c (Fine c) (IsSure c) Alike s (issue p) (issue q)
-      past-issue space = let M = issues-pass c s G p q h k d space in record { still = sure-issue p (M .still); other = issue q; fits = M .fits; meets = M .meets }
+      past-issue space =
+          let M = issues-pass c s G p q h k d space in record { still = sure-issue p (M .still); other = issue q; fits = M .fits; meets = M .meets }
 
       -- room for two, from what is known of s
       space : (n : ℕ) → (Forward c × Counted s) ⊎ (s .count + suc (suc n) ≤ 48) → leb 48 (suc (s .count)) ≡ false
@@ -87,26 +93,37 @@ module _ (c : Case) where
       both-last =
           (rw (after-issue c s q) (not-at-end c s (issued c s q) p (stays c s q p G J I (λ e. d (sym e)) .places) I (I .proc)), rw (after-issue c s p) (not-at-end c s (issued c s p) q (stays c s p q G I J d .places) J (J .proc)))
 
-    issue-diamond : (n : ℕ) → (Forward c × Counted s) ⊎ (s .count + suc (suc n) ≤ 48) → (u : Step) → stepCode c s u ≡ 0 → (u ≡ issue p) ⊎ Diamond c (Fine c) (IsSure c) Alike s (issue p) u
-    issue-diamond n r (issue q) k = ⊎-elim (λ e. inl (ap issue (eqb-true q p e))) (λ e. let d : p ≡ q → ⊥ = λ x. eqb-false q p e (sym x) in inr (past-issue q k d (space q k d n r))) (decide (eqb q p))
+    issue-diamond : (n : ℕ) → (Forward c × Counted s) ⊎ (s .count + suc (suc n) ≤ 48) → (u : Step) → stepCode c s u ≡ 0
+        → (u ≡ issue p) ⊎ Diamond c (Fine c) (IsSure c) Alike s (issue p) u
+    issue-diamond n r (issue q) k =
+        ⊎-elim (λ e. inl (ap issue (eqb-true q p e)))
+        (λ e. let d : p ≡ q → ⊥ = λ x. eqb-false q p e (sym x) in inr (past-issue q k d (space q k d n r)))
+        (decide (eqb q p))
     issue-diamond n r (commit q j e) k = inr (past-commit (the q j e) k)
     issue-diamond n r neither k = absurd (neither-no c s k)
 
     issue-last : (u : Step) → stepCode c s u ≡ 0 → (u ≡ issue p) ⊎ ((finished c (after c s u) ≡ false) × (finished c (after c s (issue p)) ≡ false))
-    issue-last (issue q) k = ⊎-elim (λ e. inl (ap issue (eqb-true q p e))) (λ e. inr (both-last q k (λ x. eqb-false q p e (sym x)))) (decide (eqb q p))
+    issue-last (issue q) k =
+        ⊎-elim (λ e. inl (ap issue (eqb-true q p e))) (λ e. inr (both-last q k (λ x. eqb-false q p e (sym x)))) (decide (eqb q p))
     issue-last (commit q j e) k = inr (diamond-last c (Fine c) (IsSure c) Alike s (issue p) (commit q j e) taken (past-commit (the q j e) k))
     issue-last neither k = absurd (neither-no c s k)
 
   commit-diamond : (s : State) (t u : Step) → Good s → IsSureCommit c s t → stepCode c s u ≡ 0 → (u ≡ t) ⊎ Diamond c (Fine c) (IsSure c) Alike s t u
-  commit-diamond s t u G S h = ⊎-elim (λ e. inl e) (λ k. inr (record { still = other-sure t (k .still); other = k .other; fits = k .fits; meets = same (k .meets) })) (Sure.meets c s t u G S h)
+  commit-diamond s t u G S h =
+      ⊎-elim (λ e. inl e)
+      (λ k. inr (record { still = other-sure t (k .still); other = k .other; fits = k .fits; meets = same (k .meets) }))
+      (Sure.meets c s t u G S h)
 
-  meet : (n : ℕ) (s : State) (t u : Step) → Fine c (suc (suc n)) s → IsSure c s t → stepCode c s u ≡ 0 → (u ≡ t) ⊎ Diamond c (Fine c) (IsSure c) Alike s t u
+  meet : (n : ℕ) (s : State) (t u : Step) → Fine c (suc (suc n)) s → IsSure c s t → stepCode c s u ≡ 0
+      → (u ≡ t) ⊎ Diamond c (Fine c) (IsSure c) Alike s t u
   meet n s t u f (sure-issue p h) k = issue-diamond s p (f .good) h n (f .room) u k
   meet n s t u f (other-sure v S) k = commit-diamond s v u (f .good) S k
 
-  last : (s : State) (t u : Step) → Fine c 1 s → IsSure c s t → stepCode c s u ≡ 0 → (u ≡ t) ⊎ ((finished c (after c s u) ≡ false) × (finished c (after c s t) ≡ false))
+  last : (s : State) (t u : Step) → Fine c 1 s → IsSure c s t → stepCode c s u ≡ 0
+      → (u ≡ t) ⊎ ((finished c (after c s u) ≡ false) × (finished c (after c s t) ≡ false))
   last s t u f (sure-issue p h) k = issue-last s p (f .good) h u k
-  last s t u f (other-sure v S) k = ⊎-elim (λ e. inl e) (λ d. inr (diamond-last c (Fine c) (IsSure c) Alike s v u taken d)) (commit-diamond s v u (f .good) S k)
+  last s t u f (other-sure v S) k =
+      ⊎-elim (λ e. inl e) (λ d. inr (diamond-last c (Fine c) (IsSure c) Alike s v u taken d)) (commit-diamond s v u (f .good) S k)
 
   outcomes : (a b : State) (n : ℕ) (r : List ℕ) → Alike a b → Done c a n r → Done c b n r
   outcomes a b n r (same e) d = subst (λ (s : State). Done c s n r) e d
@@ -117,7 +134,11 @@ module _ (c : Case) where
   cuts a b n (turned m p e) d = subst (λ (s : State). Open c s n) e (open-swap m c p d)
 
   pub fine-step : (n : ℕ) (s : State) (t : Step) → Fine c (suc n) s → stepCode c s t ≡ 0 → Fine c n (after c s t)
-  fine-step n s t f h = record { good = good-step c s (f .good) t h; room = ⊎-elim (λ r. inl (r .0, counted-step c (r .0) s (f .good) (r .1) t h)) (λ r. inr (omega (arith, count-after c s t .1))) (f .room) }
+  fine-step n s t f h =
+      record {
+        good = good-step c s (f .good) t h;
+        room = ⊎-elim (λ r. inl (r .0, counted-step c (r .0) s (f .good) (r .1) t h)) (λ r. inr (omega (arith, count-after c s t .1))) (f .room);
+      }
 
   pub laws : Laws c (Fine c) (IsSure c) Alike
   laws = record { kept = fine-step; taken = taken; diamond = meet; last = last; outcomes = outcomes; cuts = cuts }
@@ -141,7 +162,10 @@ module _ (c : Case) where
     which = step t h q
       where
         roomy-cases : roomy c (suc n) s ≡ true → (Forward c × Counted s) ⊎ (s .count + suc n ≤ 48)
-        roomy-cases h = ⊎-elim (λ f. let F = forward-cases c Z f in inl (F, K .counted F)) (λ l. let m = leb-true (s .count + suc n) _ l in inr (omega arith)) (or-cases (forward c) _ h)
+        roomy-cases h =
+            ⊎-elim (λ f. let F = forward-cases c Z f in inl (F, K .counted F))
+            (λ l. let m = leb-true (s .count + suc n) _ l in inr (omega arith))
+            (or-cases (forward c) _ h)
 
         step : (t : Step) → stepCode c s t ≡ 0 → sure c (suc n) s t ≡ true → (IsSure c s t × Fine c (suc n) s) ⊎ IsSureCommit c s t
         step (issue p) h q = inl (sure-issue p h, record { good = K .good; room = roomy-cases q })
@@ -149,10 +173,18 @@ module _ (c : Case) where
         step neither h q = absurd (false≢true q)
 
     pub done-alone : (r : List ℕ) → Done c s (suc n) r → Done c (after c s t) n r
-    done-alone r d = ⊎-elim (λ w. done-sure c (Fine c) (IsSure c) Alike laws n s t r (w .1) (w .0) d) (λ S. done-sure c (λ k. Good) (IsSureCommit c) _≡_ (Sure.laws c) n s t r (K .good) S d) which
+    done-alone r d =
+        ⊎-elim
+        (λ w. done-sure c (Fine c) (IsSure c) Alike laws n s t r (w .1) (w .0) d)
+        (λ S. done-sure c (λ k. Good) (IsSureCommit c) _≡_ (Sure.laws c) n s t r (K .good) S d)
+        which
 
     pub open-alone : Open c s (suc n) → Open c (after c s t) n
-    open-alone d = ⊎-elim (λ w. open-sure c (Fine c) (IsSure c) Alike laws n s t (w .1) (w .0) d) (λ S. open-sure c (λ k. Good) (IsSureCommit c) _≡_ (Sure.laws c) n s t (K .good) S d) which
+    open-alone d =
+        ⊎-elim
+        (λ w. open-sure c (Fine c) (IsSure c) Alike laws n s t (w .1) (w .0) d)
+        (λ S. open-sure c (λ k. Good) (IsSureCommit c) _≡_ (Sure.laws c) n s t (K .good) S d)
+        which
 
   -- THE THEOREM: at a state that an accepted schedule leads to, an accepted sure step may be taken alone, for outcomes and for the cut.
   module _ (Z : Sized c) (s : State) (ts : List Step) (w : Leads (womm c) (initial c) ts s) (t : Step) (h : stepCode c s t ≡ 0) (n : ℕ) (q : sure c (suc n) s t ≡ true) where
