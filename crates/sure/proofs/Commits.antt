@@ -60,7 +60,7 @@ release-result c s t (Goto l) h = absurd (false≢true h)
 release-result c s t (Acquire a) h = absurd (false≢true h)
 release-result c s t (Release a) h = refl
 
--- t and u, both accepted at s, touch no lock and no place counter in common
+-- t and u, both accepted at s, have no held location and no place counter in common
 pub record Apart (c : Case) (s : State) (t u : Commit) : Type 0 where
   pub differ : t .action ≡ u .action → ⊥
   pub locks : syncs (kindOf (self s t)) ≡ true → syncs (kindOf (self s u)) ≡ true → input s t 0 ≡ input s u 0 → ⊥

@@ -1,4 +1,4 @@
--- What stands behind a queued action: only later actions of its processor. So no acquire hides a source from a read. Assumes nothing.
+-- Behind a queued action stand only later actions of its processor, so no acquire's commit hides a source from a read. Assumes nothing.
 use mathlib.Core.Path.{_≡_, refl, sym, _∙_, ap, subst}
 use mathlib.Core.Logic.{_⊎_, inl, inr, ⊎-elim}
 use mathlib.Core.Bool.{Bool, true, false, cond, _&&_, false≢true}

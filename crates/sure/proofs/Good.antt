@@ -1,4 +1,4 @@
--- What holds of every reachable state. Assumes nothing.
+-- What holds of every state that an accepted schedule leads to: its place counters, names, items and orders fit together. Assumes nothing.
 use mathlib.Core.Path.{_≡_, refl, sym, _∙_, ap, subst}
 use mathlib.Core.Logic.{_⊎_, inl, inr, ⊎-elim}
 use mathlib.Core.Bool.{Bool, true, false, cond, false≢true}
@@ -148,7 +148,11 @@ module _ (c : Case) (s : State) (G : Good s) where
     good-issue =
         record {
           fresh = λ k l. ap (λ (a : Action). a .result) (put-other (s .actions) (s .count) k (newAction c s p) (λ e. omega arith)) ∙ G .fresh k (omega arith);
-          halts = λ q k w. ⊎-elim (λ e. ap isNone (put-same (s .places) p q (placeAfter (next c s p) (here c s p)) (e .1)) ∙ branch-stops (next c s p) (here c s p) (e .2)) (λ v. ap isNone (put-other (s .places) p q (placeAfter (next c s p) (here c s p)) (λ e. none-here k (subst (λ (x : ℕ). Turning s x k) e v))) ∙ G .halts q k v) (turning-issue q k w);
+          halts = λ q k w.
+              ⊎-elim
+              (λ e. ap isNone (put-same (s .places) p q (placeAfter (next c s p) (here c s p)) (e .1)) ∙ branch-stops (next c s p) (here c s p) (e .2))
+              (λ v. ap isNone (put-other (s .places) p q (placeAfter (next c s p) (here c s p)) (λ e. none-here k (subst (λ (x : ℕ). Turning s x k) e v))) ∙ G .halts q k v)
+              (turning-issue q k w);
           alone = λ q j k v w. alone q j k (turning-issue q j v) (turning-issue q k w);
           ordered = λ l. joinedIf-transitive _ _ _ _ _ (G .ordered l);
           named = named-issue;

@@ -1,4 +1,4 @@
--- Rows of the hold-back table, and what a kind is not. Assumes nothing.
+-- Rows of 'which earlier uncommitted actions hold back a commit', and what a kind is not. Assumes nothing.
 use mathlib.Core.Path.{_≡_, refl, subst}
 use mathlib.Core.Bool.{Bool, true, false, false≢true}
 use mathlib.Core.Logic.{_⊎_, inl, inr, ⊎-elim}

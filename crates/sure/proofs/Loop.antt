@@ -195,13 +195,19 @@ module _ (c : Case) (Z : Sized c) (s : State) (sp : Spent) (K : Known c s) (n : 
           record {
             sweep = E .sweep;
             more = λ b e. E .more b (or-left (now b) (sameKey b a) e);
-            done = λ b m h. ⊎-elim (λ p. E .more b (or-right (now b) (sameKey b a) (ap (λ (d : Key). sameKey d a) p ∙ key-itself a))) (λ m′. E .done b m′ h) (List·Memᴰ·cases-cons m);
+            done = λ b m h.
+                ⊎-elim
+                (λ p. E .more b (or-right (now b) (sameKey b a) (ap (λ (d : Key). sameKey d a) p ∙ key-itself a)))
+                (λ m′. E .done b m′ h) (List·Memᴰ·cases-cons m);
           }
       step false x skip more =
           record {
             sweep = skip .sweep;
             more = skip .more;
-            done = λ b m h. ⊎-elim (λ p. skip .more b (subst (λ (d : Key). now d ≡ true) (sym p) (spent x (subst (λ (d : Key). stepCode c s (stepBy s d) ≡ 0) p h)))) (λ m′. skip .done b m′ h) (List·Memᴰ·cases-cons m);
+            done = λ b m h.
+                ⊎-elim
+                (λ p. skip .more b (subst (λ (d : Key). now d ≡ true) (sym p) (spent x (subst (λ (d : Key). stepCode c s (stepBy s d) ≡ 0) p h))))
+                (λ m′. skip .done b m′ h) (List·Memᴰ·cases-cons m);
           }
 
 -- a node: a sure step alone, unless it is spent; a quiet read with each source; or all

@@ -70,7 +70,10 @@ module _ (c : Case) (s : State) where
         record {
           still = rw (after-issue c s q) (issue-ok c (issued c s q) p (issue-issue c s q p G J I d′ space));
           fits = rw (after-issue c s p) (issue-ok c (issued c s p) q (issue-issue c s p q G I J d space));
-          meets = rw (after-issue c s p, after-issue c s q, after-issue c (issued c s q) p, after-issue c (issued c s p) q) (turned (s .count) pair (sym (issues-meet c s p q G I J d)));
+          meets =
+              rw
+              (after-issue c s p, after-issue c s q, after-issue c (issued c s q) p, after-issue c (issued c s p) q)
+              (turned (s .count) pair (sym (issues-meet c s p q G I J d)));
         }
       where
         I : CanIssue c s p

@@ -1,4 +1,4 @@
--- A read whose sources cannot grow may be branched on alone. Assumes nothing.
+-- A read whose sources cannot grow may be taken at once with each of them: outcome-quiet, cut-quiet. Assumes nothing.
 use mathlib.Core.Path.{_≡_, refl, sym, _∙_, ap, ap₂, subst, fun-ext}
 use mathlib.Core.Logic.{_⊎_, inl, inr, ⊎-elim, _↔_}
 use mathlib.Core.Bool.{Bool, true, false, not, cond, _&&_, false≢true}
@@ -131,7 +131,10 @@ module _ (c : Case) (s : State) (k v : ℕ) (w : s .actions k .result ≡ none) 
         record {
           one = writes-same l e ∙ x .one;
           known = rw (item-kept c s (forced k v s) u kept U e (x .known)) (x .known);
-          newest = below-same (8 + s .count) (between (forced k v s) l i e) (between s l i e) (λ z q. ap (λ (b : Bool). b && (s .orders l e z && s .orders l z i)) (writes-same l z)) ∙ x .newest;
+          newest =
+              below-same (8 + s .count) (between (forced k v s) l i e) (between s l i e)
+              (λ z q. ap (λ (b : Bool). b && (s .orders l e z && s .orders l z i)) (writes-same l z))
+              ∙ x .newest;
           before = x .before;
         }
 
@@ -179,10 +182,21 @@ forced-by c s t r =
     λ i. record {
       count = s .count;
       actions = put (s .actions) (t .action) (valued (read-result c s t (self s t .instr) r i) (self s t));
-      places = cond-false (branching (kindOf (self s t))) (put (s .places) (t .proc) (some (cond (eqb (input s t 0) 0) (suc (self s t .place)) (labelOf (self s t .instr))))) (s .places) (k .0) i;
+      places =
+          cond-false (branching (kindOf (self s t)))
+          (put (s .places) (t .proc) (some (cond (eqb (input s t 0) 0) (suc (self s t .place)) (labelOf (self s t .instr)))))
+          (s .places) (k .0) i;
       names = s .names;
-      holders = cond-false (syncs (kindOf (self s t))) (put (s .holders) (input s t 0) (cond (acquiring (kindOf (self s t))) (some (t .proc)) none)) (s .holders) (rw (k .1, k .2) refl) i;
-      orders = fun-ext {f = λ l. joinedIf (ltb l (c .locs) && acquiring (kindOf (self s t))) (s .orders l) (item t) (8 + s .count) (releases s (input s t 0))} {g = s .orders} (λ l. joinedIf-false (ltb l (c .locs) && acquiring (kindOf (self s t))) (s .orders l) (item t) (8 + s .count) (releases s (input s t 0)) (and-right (ltb l (c .locs)) _ (k .1))) i;
+      holders =
+          cond-false (syncs (kindOf (self s t)))
+          (put (s .holders) (input s t 0) (cond (acquiring (kindOf (self s t))) (some (t .proc)) none))
+          (s .holders) (rw (k .1, k .2) refl) i;
+      orders =
+          fun-ext
+          {f = λ l. joinedIf (ltb l (c .locs) && acquiring (kindOf (self s t))) (s .orders l) (item t) (8 + s .count) (releases s (input s t 0))}
+          {g = s .orders}
+          (λ l. joinedIf-false (ltb l (c .locs) && acquiring (kindOf (self s t))) (s .orders l) (item t) (8 + s .count) (releases s (input s t 0)) (and-right (ltb l (c .locs)) _ (k .1)))
+          i;
     }
 
 -- the read's sources cannot grow: nothing is issued any more, and no write to its location waits
@@ -201,7 +215,9 @@ quiet-cases c s p k e h q =
     record {
       poised = poised-of c s p k e (a .0) (can-commit c s p k e h);
       ended = λ r l. is-some (countOf c r) (s .places r) (all-at (λ r. is (countOf c r) (s .places r)) (counting-mem (c .procs) 0 r (omega arith) (omega arith)) (b .0));
-      silent = λ j l x y z. false≢true (sym (not-true _ (b .1)) ∙ below-make (s .count) (λ j. pending (s .actions k .loc) (s .actions j)) j l (and-make (isNone (s .actions j .result)) _ (ap isNone x) (and-make (writing (kindOf (s .actions j))) _ y (eq-eqb _ _ z))));
+      silent = λ j l x y z.
+          false≢true
+          (sym (not-true _ (b .1)) ∙ below-make (s .count) (λ j. pending (s .actions k .loc) (s .actions j)) j l (and-make (isNone (s .actions j .result)) _ (ap isNone x) (and-make (writing (kindOf (s .actions j))) _ y (eq-eqb _ _ z))));
     }
   where
     is-some : (n : ℕ) (o : Option ℕ) → is n o ≡ true → o ≡ some n

@@ -1,4 +1,4 @@
--- Two adjacent actions of different processors may change numbers. Assumes nothing.
+-- 'Actions are numbered as they are issued': two adjacent ones of different processors may change numbers. Assumes nothing.
 use mathlib.Core.Path.{_≡_, refl, sym, _∙_, ap, ap₂, subst, fun-ext}
 use mathlib.Core.Logic.{⊎-elim}
 use mathlib.Core.Bool.{Bool, true, false, not, cond, _&&_, _||_}
@@ -129,8 +129,6 @@ module _ (n : ℕ) (s : State) where
         between-swap l i e =
             below-swap (8 + n) (8 + s .count) (between (swapped n s) l i e) (between s l (swap (8 + n) i) (swap (8 + n) e)) low
             (λ w z. ap (λ (x : Bool). x && (s .orders l (swap (8 + n) e) (swap (8 + n) w) && s .orders l (swap (8 + n) w) (swap (8 + n) i))) (writes-swap l w))
-
-    -- the same bound for items
 
     module _ (c : Case) (p : ℕ) where
       address-swap : address c (swapped n s) p ≡ address c s p

@@ -1,4 +1,4 @@
--- In a case without backward jumps no processor issues more than 12 actions, so that there is always room. Assumes nothing.
+-- Code 23 does not arise in a case without backward jumps: no processor issues more than 12 actions. Assumes nothing.
 use mathlib.Core.Path.{_≡_, refl, sym, _∙_, ap, ap₂, subst}
 use mathlib.Core.Logic.{⊎-elim}
 use mathlib.Core.Bool.{Bool, true, false, cond, _&&_, false≢true}
@@ -127,10 +127,17 @@ module _ (c : Case) (F : Forward c) (s : State) (G : Good s) (N : Counted s) whe
     counted-issue =
         record {
           procs = λ k l. split (λ a. a .proc < 4) lp k l (N .procs k);
-          placed = λ q i e. ⊎-elim (λ x. placed-mine q i (eqb-true q p x) e) (λ x. subst (λ (n : ℕ). n ≤ i) (sym (used-other q (eqb-false q p x))) (N .placed q i (sym (put-other (s .places) p q _ (eqb-false q p x)) ∙ e))) (decide (eqb q p));
+          placed = λ q i e.
+              ⊎-elim (λ x. placed-mine q i (eqb-true q p x) e)
+              (λ x. subst (λ (n : ℕ). n ≤ i) (sym (used-other q (eqb-false q p x))) (N .placed q i (sym (put-other (s .places) p q _ (eqb-false q p x)) ∙ e)))
+              (decide (eqb q p));
           turned = λ q k w. ⊎-elim (λ x. turned-new q k (x .0) (x .1)) (λ v. turned-old q k v) (turning-issue c s G p I q k w);
           ahead = λ k l. split (λ a. branching (kindOf a) ≡ true → a .place < labelOf (a .instr)) (λ b. jumps (branch-jumps (kind (next c s p)) b)) k l (N .ahead k);
-          most = λ q. ⊎-elim (λ x. omega (arith, ap (used (issued c s p .actions) (suc (s .count))) (eqb-true q p x), used-mine, inside p I .2)) (λ x. subst (λ (n : ℕ). n ≤ 12) (sym (used-other q (eqb-false q p x))) (N .most q)) (decide (eqb q p));
+          most = λ q.
+              ⊎-elim
+              (λ x. omega (arith, ap (used (issued c s p .actions) (suc (s .count))) (eqb-true q p x), used-mine, inside p I .2))
+              (λ x. subst (λ (n : ℕ). n ≤ 12) (sym (used-other q (eqb-false q p x))) (N .most q))
+              (decide (eqb q p));
         }
       where
         jumps : jumping (kind (next c s p)) ≡ true → here c s p < labelOf (next c s p)
@@ -188,7 +195,9 @@ module _ (c : Case) (F : Forward c) (s : State) (G : Good s) (N : Counted s) whe
           procs = λ k l. subst (λ (x : ℕ). x < 4) (sym (committed-field c s t (λ a. a .proc) refl k)) (N .procs k l);
           placed = λ q i e. subst (λ (n : ℕ). n ≤ i) (sym (used-commit q)) (placed-commit q i e);
           turned = λ q k w. omega (arith, used-commit q, N .turned q k (turning-commit c s G t T q k w .1), committed-field c s t (λ a. a .place) refl k);
-          ahead = λ k l b. omega (arith, N .ahead k l (sym (committed-field c s t (λ a. branching (kindOf a)) refl k) ∙ b), committed-field c s t (λ a. a .place) refl k, committed-field c s t (λ a. labelOf (a .instr)) refl k);
+          ahead = λ k l b.
+              omega
+              (arith, N .ahead k l (sym (committed-field c s t (λ a. branching (kindOf a)) refl k) ∙ b), committed-field c s t (λ a. a .place) refl k, committed-field c s t (λ a. labelOf (a .instr)) refl k);
           most = λ q. subst (λ (n : ℕ). n ≤ 12) (sym (used-commit q)) (N .most q);
         }
 

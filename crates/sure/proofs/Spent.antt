@@ -189,7 +189,9 @@ module _ (c : Case) (s : State) (G : Good s) (F : Firm s) where
         let t = the (s .actions k .proc) k e in
         record {
           fits = h;
-          passes = passes-of (⊎-elim (λ r. read-moves c s G F t h r u g (B .other)) (λ a. acquire-moves c s G F t h a u g (B .other) N) (or-cases (reading (kindOf (s .actions k))) (acquiring (kindOf (s .actions k))) (R .kinds)));
+          passes =
+              passes-of
+              (⊎-elim (λ r. read-moves c s G F t h r u g (B .other)) (λ a. acquire-moves c s G F t h a u g (B .other) N) (or-cases (reading (kindOf (s .actions k))) (acquiring (kindOf (s .actions k))) (R .kinds)));
           named = ap (λ (a : Action). commit (a .proc) k e) (sym (B .same));
         }
 
@@ -225,7 +227,9 @@ module _ (c : Case) (s : State) (G : Good s) (F : Firm s) where
             key = o .key;
             rests = o .rests;
             fits = L .fits;
-            then′ = later (after c s t) n (L .passes .fits) (alike (after c (after c s u) t) (after c (after c s t) u) n (L .passes .meets) (subst (λ (t : Step). P (after c (after c s u) t) n) (sym (L .named)) (o .then′)));
+            then′ =
+                later (after c s t) n (L .passes .fits)
+                (alike (after c (after c s u) t) (after c (after c s t) u) n (L .passes .meets) (subst (λ (t : Step). P (after c (after c s u) t) n) (sym (L .named)) (o .then′)));
           }
 
 -- an accepted step that may be spent

@@ -1,4 +1,4 @@
--- The commit of a local, a branch, a goto, a write or a release is sure. Assumes nothing.
+-- The commit of a local, a branch, a goto, a write or a release changes places with every other step. Assumes nothing.
 use mathlib.Core.Path.{_≡_, refl, sym, _∙_, subst, ap}
 use mathlib.Core.Logic.{_⊎_, inl, inr, ⊎-elim}
 use mathlib.Core.Bool.{Bool, true, false, not, _&&_, _||_, false≢true}
@@ -32,7 +32,7 @@ pub record SureCommit (c : Case) (s : State) (t : Commit) : Type 0 where
 pub data IsSureCommit (c : Case) (s : State) : Step → Type 0 where
   sure-commit : (t : Commit) → SureCommit c s t → IsSureCommit c s (asStep t)
 
--- a lock held by one is not to be had by another
+-- a location held by one is not to be had by another
 hold-owner : (p : ℕ) (k : ℕ) (m : ℕ) → syncs k ≡ true → barred p k (some m) ≡ false → m ≡ p
 hold-owner p k m h r =
     ⊎-elim (λ e. eqb-true m p e)

@@ -1,4 +1,4 @@
--- Two adjacent numbers changed about. Assumes nothing.
+-- Two adjacent numbers changed about, and an order with its items changed about. Assumes nothing.
 use mathlib.Core.Path.{_≡_, refl, sym, _∙_, ap, ap₂, fun-ext}
 use mathlib.Core.Logic.{_⊎_, inl, inr}
 use mathlib.Core.Bool.{Bool, true, false, cond, _&&_, _||_}

@@ -1,4 +1,4 @@
--- Sure steps, issues among them. Assumes nothing.
+-- A sure step, be it an issue or a commit, may be taken alone: outcome-alone, cut-alone. Assumes nothing.
 use mathlib.Core.Path.{_≡_, refl, sym, ap, subst}
 use mathlib.Core.Logic.{_⊎_, inl, inr, ⊎-elim, _↔_}
 use mathlib.Core.Bool.{true, false, false≢true}
