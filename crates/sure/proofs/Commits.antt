@@ -13,7 +13,7 @@ use Rattle.cases.specs.declared.Instr.{Instr}
 use Rattle.cases.specs.declared.Case.{Case}
 use Rattle.rules.specs.Kinds.{kind, syncs, reading, releasing, writing, acquiring, branching, labelOf}
 use Rattle.rules.specs.Commit.{barred, visible, committed, writes}
-use Rattle.rules.specs.State.{itemIs, kindOf, State, Action}
+use Rattle.rules.specs.State.{itemIs, kindOf, State, Action, standsAt}
 use Rattle.rules.specs.Order.{joinedIf, Order}
 use Rattle.rules.proofs.Closed.{Transitive}
 use Rattle.rules.proofs.Orders.{joinedIf-false, joinedIf-swap}
@@ -44,6 +44,13 @@ placesBy a p x f = cond (branching (kindOf a)) (put f p (some (cond (eqb x 0) (s
 
 abbrev pub holdersBy : Action → ℕ → ℕ → (ℕ → Option ℕ) → ℕ → Option ℕ
 holdersBy a p x f = cond (syncs (kindOf a)) (put f x (cond (acquiring (kindOf a)) (some p) none)) f
+
+-- the order of location l where item i of action a is put after the items P below n: at its commit, and at its issue
+abbrev pub acquired : Case → ℕ → Action → Order → ℕ → ℕ → (ℕ → Bool) → Order
+acquired c l a R i n P = joinedIf (ltb l (c .locs) && acquiring (kindOf a)) R i n P
+
+abbrev pub joins : Case → ℕ → Action → Order → ℕ → ℕ → (ℕ → Bool) → Order
+joins c l a R i n P = joinedIf (ltb l (c .locs) && standsAt l a) R i n P
 
 -- a test of items that the commit does not change
 pub item-test : (c : Case) (s : State) (t : Commit) (b : Bool) (f : Action → Bool) → f (settledBy c s t) ≡ f (self s t) → (e : ℕ)
@@ -170,18 +177,18 @@ module _ (c : Case) (s : State) (t u : Commit) (T : CanTake c s t) (U : CanTake 
       → committedBy c (committedBy c s u) t .orders l ≡ committedBy c (committedBy c s t) u .orders l
   unfolding committed
   same-orders plain l =
-      ap₂ (λ (a : Action) (x : ℕ). joinedIf (ltb l (c .locs) && acquiring (kindOf a)) (committedBy c s u .orders l) (item t) (8 + s .count) (releases (committedBy c s u) x)) (K .same) (input-same c s (committedBy c s u) t K T 0)
+      ap₂ (λ (a : Action) (x : ℕ). acquired c l a (committedBy c s u .orders l) (item t) (8 + s .count) (releases (committedBy c s u) x)) (K .same) (input-same c s (committedBy c s u) t K T 0)
       ∙ ap
-      (λ (R : Order). joinedIf (ltb l (c .locs) && acquiring (kindOf (self s t))) R (item t) (8 + s .count) (releases (committedBy c s u) (input s t 0)))
+      (λ (R : Order). acquired c l (self s t) R (item t) (8 + s .count) (releases (committedBy c s u) (input s t 0)))
       (orders-kept c s t u T U A plain l)
       ∙ step (decide (acquiring (kindOf (self s t))))
       ∙ sym (joinedIf-false _ _ _ _ _ (and-right (ltb l (c .locs)) _ (ap (λ (a : Action). acquiring (kindOf a)) (L .same) ∙ plain)))
     where
       step : (acquiring (kindOf (self s t)) ≡ true) ⊎ (acquiring (kindOf (self s t)) ≡ false)
-          → joinedIf (ltb l (c .locs) && acquiring (kindOf (self s t))) (s .orders l) (item t) (8 + s .count) (releases (committedBy c s u) (input s t 0)) ≡ joinedIf (ltb l (c .locs) && acquiring (kindOf (self s t))) (s .orders l) (item t) (8 + s .count) (releases s (input s t 0))
+          → acquired c l (self s t) (s .orders l) (item t) (8 + s .count) (releases (committedBy c s u) (input s t 0)) ≡ acquired c l (self s t) (s .orders l) (item t) (8 + s .count) (releases s (input s t 0))
       step (inl q) =
           ap
-          (joinedIf (ltb l (c .locs) && acquiring (kindOf (self s t))) (s .orders l) (item t) (8 + s .count))
+          (acquired c l (self s t) (s .orders l) (item t) (8 + s .count))
           (fun-ext (released-after c s t u T U A (input s t 0) (λ r e. A .locks (acquire-syncs (kindOf (self s t)) q) (release-syncs (kindOf (self s u)) r) e)))
       step (inr q) = joinedIf-false _ _ _ _ _ (and-right (ltb l (c .locs)) _ q) ∙ sym (joinedIf-false _ _ _ _ _ (and-right (ltb l (c .locs)) _ q))
 
@@ -190,18 +197,18 @@ module _ (c : Case) (s : State) (t u : Commit) (T : CanTake c s t) (U : CanTake 
       → committedBy c (committedBy c s u) t .orders l ≡ committedBy c (committedBy c s t) u .orders l
   unfolding committed
   both-orders tr nt nu l =
-      ap₂ (λ (a : Action) (x : ℕ). joinedIf (ltb l (c .locs) && acquiring (kindOf a)) (committedBy c s u .orders l) (item t) (8 + s .count) (releases (committedBy c s u) x)) (K .same) (input-same c s (committedBy c s u) t K T 0)
+      ap₂ (λ (a : Action) (x : ℕ). acquired c l a (committedBy c s u .orders l) (item t) (8 + s .count) (releases (committedBy c s u) x)) (K .same) (input-same c s (committedBy c s u) t K T 0)
       ∙ ap
-      (joinedIf (ltb l (c .locs) && acquiring (kindOf (self s t))) (committedBy c s u .orders l) (item t) (8 + s .count))
+      (acquired c l (self s t) (committedBy c s u .orders l) (item t) (8 + s .count))
       (fun-ext (released-after c s t u T U A (input s t 0) (λ r. absurd (false≢true (sym nu ∙ r)))))
       ∙ joinedIf-swap (ltb l (c .locs) && acquiring (kindOf (self s u))) (ltb l (c .locs) && acquiring (kindOf (self s t))) (s .orders l) (item u)
       (8 + s .count) (releases s (input s u 0)) (item t) (8 + s .count)
       (releases s (input s t 0)) (tr l)
       ∙ ap
-      (joinedIf (ltb l (c .locs) && acquiring (kindOf (self s u))) (committedBy c s t .orders l) (item u) (8 + s .count))
+      (acquired c l (self s u) (committedBy c s t .orders l) (item u) (8 + s .count))
       (sym (fun-ext (released-after c s u t U T (turned c s t u A) (input s u 0) (λ r. absurd (false≢true (sym nt ∙ r))))))
       ∙ sym
-      (ap₂ (λ (a : Action) (x : ℕ). joinedIf (ltb l (c .locs) && acquiring (kindOf a)) (committedBy c s t .orders l) (item u) (8 + s .count) (releases (committedBy c s t) x)) (L .same) (input-same c s (committedBy c s t) u L U 0))
+      (ap₂ (λ (a : Action) (x : ℕ). acquired c l a (committedBy c s t .orders l) (item u) (8 + s .count) (releases (committedBy c s t) x)) (L .same) (input-same c s (committedBy c s t) u L U 0))
 
   meet : ((l : ℕ) → committedBy c (committedBy c s u) t .orders l ≡ committedBy c (committedBy c s t) u .orders l)
       → committedBy c (committedBy c s u) t ≡ committedBy c (committedBy c s t) u

@@ -6,23 +6,23 @@ use mathlib.Core.Option.{Option, none, some}
 use Prim.Native.Nat.{ℕ, _+_, _≤_, _<_}
 use native.Mathlib.Omega.{arith}
 use lib.Dec.{eqb, ltb}
-use borrow.Author.Tests.{eqb-true, eqb-false, eq-eqb, ltb-true, ltb-false}
+use borrow.Author.Tests.{eqb-true, eqb-false, ltb-true, ltb-false}
 use Rattle.words.specs.Small.{someBelow, is, isNone}
-use Rattle.words.proofs.Bools.{and-make, below-fewer, and-both, below-make, fails, put-other, decide, put-same}
+use Rattle.words.proofs.Bools.{and-make, below-fewer, and-both, fails, put-other, decide, put-same}
 use Rattle.cases.specs.declared.Case.{Case}
 use Rattle.rules.specs.Kinds.{releasing, reading, acquiring, writing}
 use Rattle.rules.specs.Commit.{writes, committed}
-use Rattle.rules.specs.State.{Action, standsAt, State, kindOf, waiting, initial}
+use Rattle.rules.specs.State.{Action, standsAt, State, kindOf, initial}
 use Rattle.rules.specs.Step.{issue, Step, commit, neither, stepCode, after}
 use Rattle.rules.specs.Issue.{newAction, issued, earlier}
 use Rattle.rules.specs.Order.{joinedIf, Order}
 use Rattle.rules.proofs.Closed.{UpTo, Via, joined-cases}
 use Rattle.rules.proofs.Accepted.{after-issue, after-commit, can-commit, between, Visible, visible-make, neither-no}
-use Rattle.sure.proofs.Kept.{issued-new, issued-old, committed-field, Kept, kept-commit, waits-none, waits-proc, item-kept, carry}
+use Rattle.sure.proofs.Kept.{unheld, issued-new, issued-old, committed-field, Kept, kept-commit, waits-none, waits-proc, item-kept, carry}
 use Rattle.sure.proofs.Good.{Good}
 use Rattle.sure.proofs.Issues.{item-high}
 use Rattle.sure.proofs.Commits.{item-test, unbarred}
-use Rattle.sure.proofs.Commit.{settledBy, committedBy, self, CanTake, the, sees-take, item, Commit, holds, releases, input}
+use Rattle.sure.proofs.Commit.{settledBy, committedBy, self, CanTake, the, sees-take, item, Commit, releases, input}
 use Rattle.sure.proofs.Held.{read-held, read-only, release-held}
 
 -- item b is a later action of k's processor
@@ -178,7 +178,7 @@ module _ (c : Case) (s : State) (G : Good s) (F : Firm s) where
         here e =
             let r : releasing (kindOf (self s u)) ≡ true = sym (ap (λ (a : Action). releasing (kindOf a)) (put-same (s .actions) (u .action) j (settledBy c s u) e)) ∙ x in
             let p : s .actions k .proc ≡ u .proc = m′ ∙ ap (λ (i : ℕ). s .actions i .proc) e ∙ waits-proc (u .proc) (self s u) (U .waits) in
-            false≢true (sym (U .free) ∙ below-make (u .action) (holds s u) k (omega arith) (and-make (waiting (u .proc) (s .actions k)) _ (and-make _ _ (eq-eqb _ _ p) (ap isNone n)) (release-held (kindOf (self s u)) _ _ r)))
+            unheld c s u U k (omega arith) p n (release-held (kindOf (self s u)) _ _ r)
 
         there : (j ≡ u .action → ⊥) → ⊥
         there d =
@@ -221,7 +221,7 @@ module _ (c : Case) (s : State) (G : Good s) (F : Firm s) where
         let B = F .behind l (u .action) (item t) h taken in
         let e : B .number ≡ t .action = omega (arith, B .isItem) in
         let p : s .actions (u .action) .proc ≡ t .proc = sym (B .mine) ∙ ap (λ (i : ℕ). s .actions i .proc) e ∙ waits-proc (t .proc) (self s t) (T .waits) in
-        false≢true (sym (T .free) ∙ below-make (t .action) (holds s t) (u .action) (omega (arith, B .above)) (and-make (waiting (t .proc) (self s u)) _ (and-make _ _ (eq-eqb _ _ p) (ap isNone taken)) (read-held (kindOf (self s t)) (kindOf (self s u)) _ r a)))
+        unheld c s t T (u .action) (omega (arith, B .above)) p taken (read-held (kindOf (self s t)) (kindOf (self s u)) _ r a)
 
     not-upTo : (l : ℕ) → UpTo (s .orders l) (item u) (item t) → ⊥
     not-upTo l (inl e) = d (omega arith)

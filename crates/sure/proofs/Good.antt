@@ -33,6 +33,11 @@ pub record Turning (s : State) (p k : ℕ) : Type 0 where
   pub waits : s .actions k .result ≡ none
   pub turns : branching (kindOf (s .actions k)) ≡ true
 
+pub turning-at : (c : Case) (s : State) (t : Commit) → CanTake c s t → (p : ℕ) → t .proc ≡ p → branching (kindOf (self s t)) ≡ true
+    → Turning s p (t .action)
+turning-at c s t T p e b =
+    record { there = T .there; mine = waits-proc (t .proc) (self s t) (T .waits) ∙ e; waits = waits-none (t .proc) (self s t) (T .waits); turns = b }
+
 -- the name refers to an action below n
 abbrev pub Below : ℕ → Name → Type 0
 Below n (start v) = Unit {0}
@@ -185,7 +190,7 @@ module _ (c : Case) (s : State) (G : Good s) where
         differ : branching (kindOf (self s t)) ≡ true → q ≡ t .proc → ⊥
         differ b e =
             d
-            (G .alone q k (t .action) w (record { there = h .there; mine = waits-proc (t .proc) (self s t) (h .waits) ∙ sym e; waits = waits-none (t .proc) (self s t) (h .waits); turns = b }))
+            (G .alone q k (t .action) w (turning-at c s t h q (sym e) b))
 
         step : (b : Bool) → branching (kindOf (self s t)) ≡ b
             → isNone (cond b (put (s .places) (t .proc) (some (cond (eqb (input s t 0) 0) (suc (self s t .place)) (labelOf (self s t .instr))))) (s .places) q) ≡ true

@@ -18,12 +18,11 @@ use Rattle.rules.specs.Kinds.{kind, acquiring, accesses, branching, assigns, wr
 use Rattle.rules.specs.Commit.{visible, committed, writes}
 use Rattle.rules.specs.State.{itemIs, Action, given, State, start, Name, kindOf, valueOf, standsAt}
 use Rattle.rules.specs.Issue.{address, earlier, issued, here, next, placeAfter, newAction, bound, renamed}
-use Rattle.rules.specs.Order.{joinedIf}
 use Rattle.rules.proofs.Orders.{joinedIf-old, joinedIf-swap, joinedIf-ext}
 use Rattle.rules.proofs.Accepted.{visible-make, CanIssue, Visible, between}
-use Rattle.sure.proofs.Kept.{issued-new, Kept, kept-commit, kept-issue, waits-none, waits-proc, input-same, item-kept, carry, settled-same}
-use Rattle.sure.proofs.Commits.{cond-put-swap, placesBy, holdersBy, item-test}
-use Rattle.sure.proofs.Good.{Good}
+use Rattle.sure.proofs.Kept.{issued-new, Kept, kept-commit, kept-issue, input-same, item-kept, carry, settled-same}
+use Rattle.sure.proofs.Commits.{acquired, joins, cond-put-swap, placesBy, holdersBy, item-test}
+use Rattle.sure.proofs.Good.{turning-at, Good}
 use Rattle.sure.proofs.Commit.{settledBy, sees-take, self, CanTake, Commit, item, releases, input, committedBy}
 
 -- a step that leaves processor p's place and names as they are
@@ -103,7 +102,7 @@ module _ (c : Case) (s : State) (p : ℕ) (u : Commit) (G : Good s) (I : CanIssu
           → cond b (put (s .places) (u .proc) (some (cond (eqb (input s u 0) 0) (suc (self s u .place)) (labelOf (self s u .instr))))) (s .places) p ≡ s .places p
       step true e =
           put-other (s .places) (u .proc) p _
-          λ q. false≢true (sym (I .place) ∙ G .halts p (u .action) (record { there = U .there; mine = waits-proc (u .proc) (self s u) (U .waits) ∙ sym q; waits = waits-none (u .proc) (self s u) (U .waits); turns = e }))
+          λ q. false≢true (sym (I .place) ∙ G .halts p (u .action) (turning-at c s u U p (sym q) e))
       step false e = refl
 
   stays : Stays s (committedBy c s u) p
@@ -188,7 +187,7 @@ module _ (c : Case) (s : State) (p : ℕ) (u : Commit) (G : Good s) (I : CanIssu
       lone : branching (kindOf (self s u)) ≡ true → true ≡ true → u .proc ≡ p → ⊥
       lone e z q =
           false≢true
-          (sym (I .place) ∙ G .halts p (u .action) (record { there = U .there; mine = waits-proc (u .proc) (self s u) (U .waits) ∙ q; waits = waits-none (u .proc) (self s u) (U .waits); turns = e }))
+          (sym (I .place) ∙ G .halts p (u .action) (turning-at c s u U p q e))
 
   same-names : committedBy c (issued c s p) u .names ≡ issued c (committedBy c s u) p .names
   unfolding committed issued
@@ -220,7 +219,7 @@ module _ (c : Case) (s : State) (p : ℕ) (u : Commit) (G : Good s) (I : CanIssu
   same-orders : (l : ℕ) → committedBy c (issued c s p) u .orders l ≡ issued c (committedBy c s u) p .orders l
   unfolding committed issued
   same-orders l =
-      ap₂ (λ (a : Action) (x : ℕ). joinedIf (ltb l (c .locs) && acquiring (kindOf a)) (issued c s p .orders l) (item u) (8 + suc (s .count)) (releases (issued c s p) x)) (kept .same) (input-same c s (issued c s p) u kept U 0)
+      ap₂ (λ (a : Action) (x : ℕ). acquired c l a (issued c s p .orders l) (item u) (8 + suc (s .count)) (releases (issued c s p) x)) (kept .same) (input-same c s (issued c s p) u kept U 0)
       ∙ joinedIf-ext (ltb l (c .locs) && acquiring (kindOf (self s u))) (issued c s p .orders l) (item u) (8 + suc (s .count)) (8 + s .count)
       (releases (issued c s p) m) (releases s m)
       (λ e h r. low e h (sym (released-kept m e) ∙ r))
@@ -229,7 +228,7 @@ module _ (c : Case) (s : State) (p : ℕ) (u : Commit) (G : Good s) (I : CanIssu
       (8 + s .count) (earlier c s p l) (item u) (8 + s .count) (releases s m)
       (G .ordered l)
       ∙ sym
-      (ap₂ (λ (a : Action) (P : ℕ → Bool). joinedIf (ltb l (c .locs) && standsAt l a) (committedBy c s u .orders l) (8 + s .count) (8 + s .count) P) new (fun-ext λ e. item-test c s u (eqb e l) (λ a. eqb (a .proc) p && standsAt l a) refl e))
+      (ap₂ (λ (a : Action) (P : ℕ → Bool). joins c l a (committedBy c s u .orders l) (8 + s .count) (8 + s .count) P) new (fun-ext λ e. item-test c s u (eqb e l) (λ a. eqb (a .proc) p && standsAt l a) refl e))
     where
       m : ℕ
       m = input s u 0

@@ -7,14 +7,14 @@ use Prim.Native.Nat.{ℕ, zero, suc, _-_, _≤_, _<_}
 use native.Mathlib.Omega.{arith}
 use lib.Dec.{eqb, ltb}
 use lib.ListN.{getD}
-use borrow.Author.Tests.{eqb-true}
+use borrow.Author.Tests.{eqb-true, eq-eqb}
 use Rattle.words.specs.Small.{isNone, any, orZero, put}
-use Rattle.words.proofs.Bools.{or-none, put-other, and-both, below-fewer, put-same}
+use Rattle.words.proofs.Bools.{or-none, put-other, and-both, below-fewer, put-same, below-make, and-make}
 use Rattle.cases.specs.Case.{wordOf}
 use Rattle.cases.specs.declared.Instr.the-variants.{Empty, Read, Write, Local, Branch, Goto, Acquire, Release}
 use Rattle.cases.specs.declared.Instr.{Instr}
 use Rattle.cases.specs.declared.Case.{Case}
-use Rattle.rules.specs.Kinds.{reading, kind}
+use Rattle.rules.specs.Kinds.{reading, kind, heldBy}
 use Rattle.rules.specs.Commit.{barred, committed, visible}
 use Rattle.rules.specs.State.{Action, given, Name, start, kindOf, valueOf, waiting, State, itemValue}
 use Rattle.rules.specs.Issue.{issued, newAction}
@@ -41,6 +41,13 @@ waits-proc p a h = eqb-true (a .proc) p (and-both (eqb (a .proc) p) (isNone (a .
 -- a committed action is not in the queue
 pub not-waiting : (p : ℕ) (a : Action) (v : ℕ) → a .result ≡ some v → waiting p a ≡ true → ⊥
 not-waiting p a v e h = false≢true (sym (ap isNone e) ∙ and-both (eqb (a .proc) p) (isNone (a .result)) h .1)
+
+-- an accepted commit is held back by none of its processor's queue
+pub unheld : (c : Case) (s : State) (t : Commit) → CanTake c s t → (j : ℕ) → j < t .action → s .actions j .proc ≡ t .proc
+    → s .actions j .result ≡ none
+    → heldBy (kindOf (self s t)) (kindOf (s .actions j)) (eqb (s .actions j .loc) (self s t .loc)) ≡ true → ⊥
+unheld c s t T j l p n h =
+    false≢true (sym (T .free) ∙ below-make (t .action) (holds s t) j l (and-make (waiting (t .proc) (s .actions j)) _ (and-make _ _ (eq-eqb _ _ p) (ap isNone n)) h))
 
 -- an action without a value gets one: what had a value keeps it, and what is in the queue was there
 pub values-put : (s s′ : State) (k : ℕ) (a : Action) → s′ .actions ≡ put (s .actions) k a → s .actions k .result ≡ none → (n : Name)

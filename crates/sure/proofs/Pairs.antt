@@ -20,6 +20,7 @@ use Rattle.rules.proofs.Orders.{joinedIf-swap, joinedIf-ext}
 use Rattle.rules.proofs.Accepted.{CanIssue}
 use Rattle.sure.proofs.Kept.{values-put, issued-new}
 use Rattle.sure.proofs.Good.{Good, Below, AllBelow, all-map}
+use Rattle.sure.proofs.Commits.{joins}
 use Rattle.sure.proofs.Issues.{Stays, next-same, carry-issue, new-same, item-high, item-old}
 use Rattle.sure.proofs.Swap.{swap, View, up, down, stay, view, swap-small, swap-at, swap-next, swapOrder, swapOrder-low, joinedIf-swapped}
 use Rattle.sure.proofs.Renumber.{swapName, swapAction, swapped}
@@ -105,10 +106,10 @@ module _ (c : Case) (s : State) (p q : ℕ) (G : Good s) (I : CanIssue c s p) (J
 
   -- the order after both
   orders-after : (l : ℕ)
-      → issued c (issued c s p) q .orders l ≡ joinedIf (ltb l (c .locs) && standsAt l (newAction c s q)) (joinedIf (ltb l (c .locs) && standsAt l (newAction c s p)) (s .orders l) (8 + s .count) (8 + s .count) (earlier c s p l)) (8 + suc (s .count)) (8 + s .count) (earlier c s q l)
+      → issued c (issued c s p) q .orders l ≡ joins c l (newAction c s q) (joins c l (newAction c s p) (s .orders l) (8 + s .count) (8 + s .count) (earlier c s p l)) (8 + suc (s .count)) (8 + s .count) (earlier c s q l)
   unfolding issued
   orders-after l =
-      ap (λ (a : Action). joinedIf (ltb l (c .locs) && standsAt l a) (issued c s p .orders l) (8 + suc (s .count)) (8 + suc (s .count)) (earlier c (issued c s p) q l)) new
+      ap (λ (a : Action). joins c l a (issued c s p .orders l) (8 + suc (s .count)) (8 + suc (s .count)) (earlier c (issued c s p) q l)) new
       ∙ joinedIf-ext (ltb l (c .locs) && standsAt l (newAction c s q)) (issued c s p .orders l) (8 + suc (s .count)) (8 + suc (s .count)) (8 + s .count)
       (earlier c (issued c s p) q l) (earlier c s q l) (earlier-kept l)
       (λ e h r. (omega arith, item-old c s p (eqb e l) (λ a. eqb (a .proc) q && standsAt l a) e (λ x. omega arith) ∙ r))

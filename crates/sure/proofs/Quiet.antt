@@ -28,8 +28,8 @@ use Rattle.rules.proofs.Orders.{joinedIf-false}
 use Rattle.rules.proofs.Accepted.{still, after-commit, Visible, can-issue, visible-make, can-commit, neither-no, counting-mem, finished-still, between}
 use Rattle.sure.specs.Quiet.{ended, pending, quiet}
 use Rattle.sure.proofs.Kept.{holds-kept, ready-kept, queue-put, values-put, Kept, kept-commit, waits-none, waits-proc, input-same, item-kept, carry, settled-same}
-use Rattle.sure.proofs.Good.{good, good-initial, Good, good-step}
-use Rattle.sure.proofs.Commits.{unbarred, placesBy, holdersBy, item-test}
+use Rattle.sure.proofs.Good.{turning-at, good, good-initial, Good, good-step}
+use Rattle.sure.proofs.Commits.{acquired, unbarred, placesBy, holdersBy, item-test}
 use Rattle.sure.proofs.Reduce.{Done, Open, done-from, done-to, open-from, open-to}
 use Rattle.sure.proofs.Commit.{settledBy, Commit, input, CanTake, releases, can-take, asStep, resultBy, sees-take, the, self, committedBy, take-ok, item, holds, after-take}
 use Rattle.sure.proofs.Held.{read-only}
@@ -168,9 +168,9 @@ module _ (c : Case) (s : State) (k v : ℕ) (w : s .actions k .result ≡ none) 
 
         orders : (l : ℕ) → committedBy c (forced k v s) u .orders l ≡ committedBy c s u .orders l
         orders l =
-            ap₂ (λ (a : Action) (x : ℕ). joinedIf (ltb l (c .locs) && acquiring (kindOf a)) (s .orders l) (item u) (8 + s .count) (releases (forced k v s) x)) (kept .same) (input-same c s (forced k v s) u kept U 0)
+            ap₂ (λ (a : Action) (x : ℕ). acquired c l a (s .orders l) (item u) (8 + s .count) (releases (forced k v s) x)) (kept .same) (input-same c s (forced k v s) u kept U 0)
             ∙ ap
-            (joinedIf (ltb l (c .locs) && acquiring (kindOf (self s u))) (s .orders l) (item u) (8 + s .count))
+            (acquired c l (self s u) (s .orders l) (item u) (8 + s .count))
             (fun-ext λ e. forced-test false (λ a. releasing (kindOf a) && is (input s u 0) (a .result)) (rw (read-only (kindOf (s .actions k)) r .2) refl) e)
 
 -- an accepted commit of the read gives it the source's value
@@ -193,7 +193,7 @@ forced-by c s t r =
           (s .holders) (rw (k .1, k .2) refl) i;
       orders =
           fun-ext
-          {f = λ l. joinedIf (ltb l (c .locs) && acquiring (kindOf (self s t))) (s .orders l) (item t) (8 + s .count) (releases s (input s t 0))}
+          {f = λ l. acquired c l (self s t) (s .orders l) (item t) (8 + s .count) (releases s (input s t 0))}
           {g = s .orders}
           (λ l. joinedIf-false (ltb l (c .locs) && acquiring (kindOf (self s t))) (s .orders l) (item t) (8 + s .count) (releases s (input s t 0)) (and-right (ltb l (c .locs)) _ (k .1)))
           i;
@@ -247,7 +247,7 @@ module _ (c : Case) (s : State) (p k : ℕ) (G : Good s) (Q : Quiet c s p k) whe
             → cond b (put (s .places) (u .proc) (some (cond (eqb (input s u 0) 0) (suc (self s u .place)) (labelOf (self s u .instr))))) (s .places) p ≡ s .places p
         step true e =
             put-other (s .places) (u .proc) p _
-            λ q. false≢true (sym (ap isNone (Q .ended p l)) ∙ G .halts p (u .action) (record { there = U .there; mine = waits-proc (u .proc) (self s u) (U .waits) ∙ sym q; waits = waits-none (u .proc) (self s u) (U .waits); turns = e }))
+            λ q. false≢true (sym (ap isNone (Q .ended p l)) ∙ G .halts p (u .action) (turning-at c s u U p (sym q) e))
         step false e = refl
 
     silent-kept : (j : ℕ) → j < s .count → committedBy c s u .actions j .result ≡ none → writing (kindOf (committedBy c s u .actions j)) ≡ true

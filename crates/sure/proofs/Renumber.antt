@@ -21,10 +21,9 @@ use Rattle.rules.specs.Result.{finished, registerBytes, registers}
 use Rattle.rules.specs.State.{Action, standsAt, itemValue, State, valueOf, given, kindOf, Name, waiting, start}
 use Rattle.rules.specs.Step.{neither, commit, stepCode, after, issue, Step}
 use Rattle.rules.specs.Issue.{earlier, address, next, placeAfter, renamed, here, issued, bound, newAction}
-use Rattle.rules.specs.Order.{joinedIf}
 use Rattle.rules.proofs.Accepted.{between, neither-no, can-issue, CanIssue, issue-ok, after-issue}
 use Rattle.sure.proofs.Kept.{issued-old, committed-field, waits-proc}
-use Rattle.sure.proofs.Commits.{placesBy, holdersBy}
+use Rattle.sure.proofs.Commits.{acquired, joins, placesBy, holdersBy}
 use Rattle.sure.proofs.Reduce.{Done, Open}
 use Rattle.sure.proofs.Swap.{swap, swap-twice, swap-low, swap-high, swap-small, swap-eqb, swap-item, swap-before, below-swap, put-swapped, swapOrder, joinedIf-swapped}
 use Rattle.sure.proofs.Commit.{self, resultBy, CanTake, item, holds, asStep, settledBy, Commit, can-take, the, committedBy, releases, take-ok, after-take, input}
@@ -193,7 +192,7 @@ module _ (n : ℕ) (s : State) where
 
           orders : (l : ℕ) → issued c (swapped n s) p .orders l ≡ swapped n (issued c s p) .orders l
           orders l =
-              ap₂ (λ (a : Action) (i : ℕ). joinedIf (ltb l (c .locs) && standsAt l a) (swapOrder (8 + n) (s .orders l)) i (8 + s .count) (earlier c (swapped n s) p l)) new-swap (sym (swap-high (8 + n) (8 + s .count) (omega arith)))
+              ap₂ (λ (a : Action) (i : ℕ). joins c l a (swapOrder (8 + n) (s .orders l)) i (8 + s .count) (earlier c (swapped n s) p l)) new-swap (sym (swap-high (8 + n) (8 + s .count) (omega arith)))
               ∙ joinedIf-swapped (ltb l (c .locs) && standsAt l (newAction c s p)) (8 + n) (s .orders l) (8 + s .count) (8 + s .count) (earlier c s p l)
               (earlier c (swapped n s) p l) low
               (λ e z. item-by (λ x. eqb x l) (λ a. eqb (a .proc) p && standsAt l a) (λ a. refl) e)
@@ -298,9 +297,9 @@ module _ (n : ℕ) (s : State) where
 
         orders : (l : ℕ) → committedBy c (swapped n s) (swapCommit n t) .orders l ≡ swapped n (committedBy c s t) .orders l
         orders l =
-            ap₂ (λ (a : Action) (x : ℕ). joinedIf (ltb l (c .locs) && acquiring (kindOf a)) (swapOrder (8 + n) (s .orders l)) (8 + swap n (t .action)) (8 + s .count) (releases (swapped n s) x)) self-swap (input-swap 0)
+            ap₂ (λ (a : Action) (x : ℕ). acquired c l a (swapOrder (8 + n) (s .orders l)) (8 + swap n (t .action)) (8 + s .count) (releases (swapped n s) x)) self-swap (input-swap 0)
             ∙ ap
-            (λ (i : ℕ). joinedIf (ltb l (c .locs) && acquiring (kindOf (self s t))) (swapOrder (8 + n) (s .orders l)) i (8 + s .count) (releases (swapped n s) (input s t 0)))
+            (λ (i : ℕ). acquired c l (self s t) (swapOrder (8 + n) (s .orders l)) i (8 + s .count) (releases (swapped n s) (input s t 0)))
             (sym (swap-item n (t .action)))
             ∙ joinedIf-swapped (ltb l (c .locs) && acquiring (kindOf (self s t))) (8 + n) (s .orders l) (8 + t .action) (8 + s .count)
             (releases s (input s t 0)) (releases (swapped n s) (input s t 0))

@@ -20,8 +20,8 @@ use Rattle.rules.specs.Step.{Step, commit, after, issue, neither, stepCode}
 use Rattle.rules.specs.Issue.{placeAfter, newAction, here, issued, next}
 use Rattle.rules.proofs.Accepted.{can-issue, neither-no, CanIssue, after-commit, can-commit, after-issue}
 use Rattle.sure.specs.Sure.{jumping, forward, backward, Sized}
-use Rattle.sure.proofs.Kept.{issued-new, issued-old, committed-field, waits-none, waits-proc}
-use Rattle.sure.proofs.Good.{Good, Turning, turning-issue, none-here, turning-commit}
+use Rattle.sure.proofs.Kept.{issued-new, issued-old, committed-field}
+use Rattle.sure.proofs.Good.{turning-at, Good, Turning, turning-issue, none-here, turning-commit}
 use Rattle.sure.proofs.Commit.{committedBy, the, Commit, input, self, CanTake}
 
 -- of these sizes, and every label is greater than its own place
@@ -177,7 +177,7 @@ module _ (c : Case) (F : Forward c) (s : State) (G : Good s) (N : Counted s) whe
         mine : branching (kindOf (self s t)) ≡ true → q ≡ t .proc → to ≡ i → used (s .actions) (s .count) q ≤ i
         mine h x y =
             omega
-            (arith, N .turned q (t .action) (record { there = T .there; mine = waits-proc (t .proc) (self s t) (T .waits) ∙ sym x; waits = waits-none (t .proc) (self s t) (T .waits); turns = h }), further h (eqb (input s t 0) 0))
+            (arith, N .turned q (t .action) (turning-at c s t T q (sym x) h), further h (eqb (input s t 0) 0))
 
         step : (b : Bool) → branching (kindOf (self s t)) ≡ b → cond b (put (s .places) (t .proc) (some to)) (s .places) q ≡ some i
             → used (s .actions) (s .count) q ≤ i

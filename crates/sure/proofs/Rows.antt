@@ -1,6 +1,6 @@
 -- Spent steps as words: what noting one changes, and what a step leaves spent. Assumes nothing.
 use mathlib.Core.Path.{_≡_, refl, sym, _∙_, ap, fun-ext}
-use mathlib.Core.Bool.{Bool, true, false, _&&_, _||_, false≢true}
+use mathlib.Core.Bool.{Bool, true, false, _&&_, _||_, false≢true, cond}
 use mathlib.Core.List.{List}
 use mathlib.Core.Logic.{_⊎_, inl, inr, ⊎-elim}
 use Prim.Native.Nat.{ℕ, zero, suc, _<_, _^_}
@@ -11,7 +11,7 @@ use lib.Dec.{eqb}
 use borrow.Author.Tests.{eqb-true, eqb-false, ne-eqb, lt-leb}
 use Rattle.words.specs.Sets.{has}
 use Rattle.words.proofs.Sets.{has-or, has-one, has-zero}
-use Rattle.words.proofs.Bools.{and-left, or-false, or-cases, and-both}
+use Rattle.words.proofs.Bools.{and-left, or-false, or-cases, and-both, cond-false, cond-true, fails}
 use Rattle.rules.specs.Kinds.{acquiring}
 use Rattle.rules.specs.State.{kindOf, State}
 use Rattle.rules.specs.Step.{issue, commit}
@@ -80,6 +80,17 @@ module _ (rows : List ℕ) (issues : ℕ) where
         → Calm s (commit p k e) (spentBy rows issues) (spentBy less issues)
     calm-acquire p k e less g (taking j f) h = g j f h
     calm-acquire p k e less g (issuing q) h = (h, refl)
+
+    -- the same where the words that pass the test b are cleared, among them those of the rivals
+    pub calm-cleared : (p k e : ℕ) (less : List ℕ) (b : ℕ → Bool) → ((j : ℕ) → getD less j 0 ≡ cond (b j) 0 (getD rows j 0))
+        → ((j : ℕ) → rivals s (s .actions k) (s .actions j) ≡ true → b j ≡ true) → Calm s (commit p k e) (spentBy rows issues) (spentBy less issues)
+    calm-cleared p k e less b E r = calm-acquire p k e less (λ j f. step j f (b j) refl)
+      where
+        step : (j f : ℕ) (x : Bool) → b j ≡ x → has (getD less j 0) f ≡ true
+            → (has (getD rows j 0) f ≡ true) × (rivals s (s .actions k) (s .actions j) ≡ false)
+        step j f true q h = absurd (false≢true (sym (ap (λ (w : ℕ). has w f) (E j ∙ cond-true (b j) 0 _ q) ∙ has-zero f) ∙ h))
+        step j f false q h =
+            (sym (ap (λ (w : ℕ). has w f) (E j ∙ cond-false (b j) 0 _ q)) ∙ h, fails (b j) (rivals s (s .actions k) (s .actions j)) (r j) q)
 
     -- an issue that is not spent wakes no other, while there is room for one more
     pub calm-issue : (p : ℕ) → has issues p ≡ false → suc (s .count) < 48 → Calm s (issue p) (spentBy rows issues) (spentBy rows issues)

@@ -7,20 +7,20 @@ use Prim.Native.Nat.{ℕ}
 use native.Mathlib.Omega.{arith}
 use lib.Dec.{eqb, ltb}
 use borrow.Author.Tests.{eqb-true, ltb-true, ltb-false, eqb-false}
-use Rattle.words.proofs.Bools.{below-make, decide, or-cases, or-right, and-make}
+use Rattle.words.proofs.Bools.{decide, or-cases, or-right, and-make}
 use Rattle.cases.specs.declared.Case.{Case}
-use Rattle.rules.specs.Kinds.{reading, branching, acquiring, syncs, releasing}
+use Rattle.rules.specs.Kinds.{reading, acquiring, syncs, releasing}
 use Rattle.rules.specs.Commit.{barred}
-use Rattle.rules.specs.State.{State, waiting, kindOf}
+use Rattle.rules.specs.State.{State, kindOf}
 use Rattle.rules.specs.Step.{issue, Step, stepCode, commit, neither}
 use Rattle.rules.proofs.Accepted.{still, after-issue, neither-no}
 use Rattle.sure.specs.Sure.{sureKind}
-use Rattle.sure.proofs.Kept.{issued-old, waits-none, waits-proc}
-use Rattle.sure.proofs.Good.{Good, Turning, good-step}
+use Rattle.sure.proofs.Kept.{unheld, issued-old, waits-none, waits-proc}
+use Rattle.sure.proofs.Good.{turning-at, Good, good-step}
 use Rattle.sure.proofs.Commits.{Apart, turned, kept, can-after, unread-after, commits-meet}
 use Rattle.sure.proofs.Moves.{commits-move, commit-moves}
 use Rattle.sure.proofs.Reduce.{Diamond, Done, Open, Laws, diamond-last}
-use Rattle.sure.proofs.Commit.{after-take, CanTake, Commit, asStep, self, can-take, input, the, holds, source-zero}
+use Rattle.sure.proofs.Commit.{after-take, CanTake, Commit, asStep, self, can-take, input, the, source-zero}
 use Rattle.sure.proofs.Held.{release-held, sync-held, sure-unacquired, sure-unread}
 
 -- an accepted commit of a sure kind
@@ -85,28 +85,24 @@ module _ (c : Case) (s : State) (t : Commit) (G : Good s) (S : SureCommit c s t)
               hold-one (t .proc) (u .proc) (kindOf (self s t)) (kindOf (self s u)) (s .holders (input s t 0)) rel q (T .allowed)
               (subst (λ (l : ℕ). barred (u .proc) (kindOf (self s u)) (s .holders l) ≡ false) (sym x) (U .allowed))
 
+          idle : (v : Commit) → CanTake c s v → s .actions (v .action) .result ≡ none
+          idle v C = waits-none (v .proc) (self s v) (C .waits)
+
+          mine : (v : Commit) → CanTake c s v → s .actions (v .action) .proc ≡ v .proc
+          mine v C = waits-proc (v .proc) (self s v) (C .waits)
+
           queue : t .proc ≡ u .proc → ⊥
           queue p =
-              ⊎-elim
-              (λ o. false≢true (sym (T .free) ∙ below-make (t .action) (holds s t) (u .action) (ltb-true _ _ o) (and-make (waiting (t .proc) (self s u)) _ (subst (λ (y : ℕ). waiting y (self s u) ≡ true) (sym p) (U .waits)) (release-held (kindOf (self s t)) _ _ rel))))
-              (λ o. false≢true (sym (U .free) ∙ below-make (u .action) (holds s u) (t .action) (omega (arith, ltb-false (u .action) (t .action) o)) (and-make (waiting (u .proc) (self s t)) _ (subst (λ (y : ℕ). waiting y (self s t) ≡ true) p (T .waits)) (sync-held (kindOf (self s u)) (kindOf (self s t)) _ q rel))))
+              ⊎-elim (λ o. unheld c s t T (u .action) (ltb-true _ _ o) (mine u U ∙ sym p) (idle u U) (release-held (kindOf (self s t)) _ _ rel))
+              (λ o. unheld c s u U (t .action) (omega (arith, ltb-false (u .action) (t .action) o)) (mine t T ∙ p) (idle t T) (sync-held (kindOf (self s u)) (kindOf (self s t)) _ q rel))
               (decide (ltb (u .action) (t .action)))
-
-      turning : (v : Commit) → CanTake c s v → branching (kindOf (self s v)) ≡ true → Turning s (v .proc) (v .action)
-      turning v C b =
-          record {
-            there = C .there;
-            mine = waits-proc (v .proc) (self s v) (C .waits);
-            waits = waits-none (v .proc) (self s v) (C .waits);
-            turns = b;
-          }
 
       pub apart : Apart c s t u
       apart =
           record {
             differ = d;
             locks = locks;
-            lone = λ a b e. d (G .alone (u .proc) (t .action) (u .action) (subst (λ (p : ℕ). Turning s p (t .action)) e (turning t T a)) (turning u U b));
+            lone = λ a b e. d (G .alone (u .proc) (t .action) (u .action) (turning-at c s t T (u .proc) e a) (turning-at c s u U (u .proc) refl b));
           }
 
       commit-diamond : Diamond c (λ n. Good) (IsSureCommit c) _≡_ s (asStep t) (asStep u)
