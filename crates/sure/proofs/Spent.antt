@@ -6,7 +6,7 @@ use mathlib.Core.Bool.{true, false, false≢true}
 use mathlib.Core.Option.{none}
 use Prim.Native.Nat.{ℕ, zero, suc, _<_}
 use native.Mathlib.Omega.{arith}
-use lib.Dec.{eqb, leb}
+use lib.Dec.{eqb}
 use borrow.Author.Tests.{eqb-false, eq-eqb}
 use Rattle.words.proofs.Bools.{decide, or-none, and-make, put-other, or-cases}
 use Rattle.cases.specs.declared.Case.{Case}
@@ -104,7 +104,7 @@ module _ (c : Case) (s : State) (G : Good s) (F : Firm s) (t : Commit) (h : step
 -- THE DIAMOND of issues: an accepted issue, and any other accepted step but an issue of its processor or of the last action that there is room for
 module _ (c : Case) (s : State) (G : Good s) (p : ℕ) (h : stepCode c s (issue p) ≡ 0) where
   pub issue-passes : (u : Step) → stepCode c s u ≡ 0 → wakes s u (issuing p) ≡ false → Passes c s (issue p) u
-  issue-passes (issue q) g x = let w = or-none (eqb p q) (leb 48 (suc (s .count))) x in issues-pass c s G p q h g (eqb-false p q (w .0)) (w .1)
+  issue-passes (issue q) g x = let w = or-none (eqb p q) _ x in issues-pass c s G p q h g (eqb-false p q (w .0)) (w .1)
   issue-passes (commit q j e) g x = passes-of (other-way (commit-moves c s G (the q j e) g p h))
   issue-passes neither g x = absurd (neither-no c s g)
 

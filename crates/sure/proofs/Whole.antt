@@ -25,7 +25,7 @@ use Rattle.sure.proofs.Good.{Good, good-step, good-initial}
 use Rattle.sure.proofs.Pairs.{stays}
 use Rattle.sure.proofs.Moves.{Alike, same, turned, other-way, commit-moves, issues-pass}
 use Rattle.sure.proofs.Reduce.{Done, Open, Diamond, Laws, diamond-last, open-to, done-sure, open-from, open-sure, done-to, done-from}
-use Rattle.sure.proofs.Sure.{IsSureCommit, sure-commit, accepted}
+use Rattle.sure.proofs.Sure.{IsSureCommit, sure-commit}
 use Rattle.sure.proofs.Renumber.{done-swap, open-swap}
 use Rattle.sure.proofs.Room.{Forward, Counted, room, counted-step, counted-initial, forward-cases}
 use Rattle.sure.proofs.Commit.{committedBy, asStep, Commit, the}
@@ -36,10 +36,9 @@ pub record Fine (c : Case) (n : ℕ) (s : State) : Type 0 where
   pub good : Good s
   pub room : (Forward c × Counted s) ⊎ (s .count + n ≤ 48)
 
--- an accepted issue, or an accepted commit of a sure kind
-pub data IsSure (c : Case) (s : State) : Step → Type 0 where
-  sure-issue : (p : ℕ) → stepCode c s (issue p) ≡ 0 → IsSure c s (issue p)
-  other-sure : (t : Step) → IsSureCommit c s t → IsSure c s t
+-- an accepted issue
+pub data IsSureIssue (c : Case) (s : State) : Step → Type 0 where
+  sure-issue : (p : ℕ) → stepCode c s (issue p) ≡ 0 → IsSureIssue c s (issue p)
 
 count-issue : (c : Case) (s : State) (p : ℕ) → issued c s p .count ≡ suc (s .count)
 unfolding issued
@@ -62,15 +61,14 @@ not-at-end c s s′ p e I h =
     (λ f. f) (decide (finished c s′))
 
 module _ (c : Case) where
-  taken : (s : State) (t : Step) → IsSure c s t → stepCode c s t ≡ 0
+  taken : (s : State) (t : Step) → IsSureIssue c s t → stepCode c s t ≡ 0
   taken s t (sure-issue p h) = h
-  taken s t (other-sure u S) = accepted c s u S
 
   module _ (s : State) (p : ℕ) (G : Good s) (h : stepCode c s (issue p) ≡ 0) where
     I : CanIssue c s p
     I = can-issue c s p h
 
-    past-commit : (u : Commit) → stepCode c s (asStep u) ≡ 0 → Diamond c (Fine c) (IsSure c) Alike s (issue p) (asStep u)
+    past-commit : (u : Commit) → stepCode c s (asStep u) ≡ 0 → Diamond c (Fine c) (IsSureIssue c) Alike s (issue p) (asStep u)
     past-commit u k =
         let M = other-way (commit-moves c s G u k p h) in
         record { still = sure-issue p (M .still); other = asStep u; fits = M .fits; meets = same (M .meets) }
@@ -79,7 +77,7 @@ module _ (c : Case) where
       J : CanIssue c s q
       J = can-issue c s q k
 
-      past-issue : leb 48 (suc (s .count)) ≡ false → Diamond c (Fine c) (IsSure c) Alike s (issue p) (issue q)
+      past-issue : leb 48 (suc (s .count)) ≡ false → Diamond c (Fine c) (IsSureIssue c) Alike s (issue p) (issue q)
       past-issue space =
           let M = issues-pass c s G p q h k d space in record { still = sure-issue p (M .still); other = issue q; fits = M .fits; meets = M .meets }
 
@@ -91,10 +89,13 @@ module _ (c : Case) where
       -- a processor that can issue is not at its end, and another's issue leaves it there
       both-last : (finished c (after c s (issue q)) ≡ false) × (finished c (after c s (issue p)) ≡ false)
       both-last =
-          (rw (after-issue c s q) (not-at-end c s (issued c s q) p (stays c s q p G J I (λ e. d (sym e)) .places) I (I .proc)), rw (after-issue c s p) (not-at-end c s (issued c s p) q (stays c s p q G I J d .places) J (J .proc)))
+          let d′ : q ≡ p → ⊥ = λ e. d (sym e) in (
+            rw (after-issue c s q) (not-at-end c s (issued c s q) p (stays c s q p G J I d′ .places) I (I .proc)),
+            rw (after-issue c s p) (not-at-end c s (issued c s p) q (stays c s p q G I J d .places) J (J .proc)),
+          )
 
     issue-diamond : (n : ℕ) → (Forward c × Counted s) ⊎ (s .count + suc (suc n) ≤ 48) → (u : Step) → stepCode c s u ≡ 0
-        → (u ≡ issue p) ⊎ Diamond c (Fine c) (IsSure c) Alike s (issue p) u
+        → (u ≡ issue p) ⊎ Diamond c (Fine c) (IsSureIssue c) Alike s (issue p) u
     issue-diamond n r (issue q) k =
         ⊎-elim (λ e. inl (ap issue (eqb-true q p e)))
         (λ e. let d : p ≡ q → ⊥ = λ x. eqb-false q p e (sym x) in inr (past-issue q k d (space q k d n r)))
@@ -105,25 +106,16 @@ module _ (c : Case) where
     issue-last : (u : Step) → stepCode c s u ≡ 0 → (u ≡ issue p) ⊎ ((finished c (after c s u) ≡ false) × (finished c (after c s (issue p)) ≡ false))
     issue-last (issue q) k =
         ⊎-elim (λ e. inl (ap issue (eqb-true q p e))) (λ e. inr (both-last q k (λ x. eqb-false q p e (sym x)))) (decide (eqb q p))
-    issue-last (commit q j e) k = inr (diamond-last c (Fine c) (IsSure c) Alike s (issue p) (commit q j e) taken (past-commit (the q j e) k))
+    issue-last (commit q j e) k = inr (diamond-last c (Fine c) (IsSureIssue c) Alike s (issue p) (commit q j e) taken (past-commit (the q j e) k))
     issue-last neither k = absurd (neither-no c s k)
 
-  commit-diamond : (s : State) (t u : Step) → Good s → IsSureCommit c s t → stepCode c s u ≡ 0 → (u ≡ t) ⊎ Diamond c (Fine c) (IsSure c) Alike s t u
-  commit-diamond s t u G S h =
-      ⊎-elim (λ e. inl e)
-      (λ k. inr (record { still = other-sure t (k .still); other = k .other; fits = k .fits; meets = same (k .meets) }))
-      (Sure.meets c s t u G S h)
-
-  meet : (n : ℕ) (s : State) (t u : Step) → Fine c (suc (suc n)) s → IsSure c s t → stepCode c s u ≡ 0
-      → (u ≡ t) ⊎ Diamond c (Fine c) (IsSure c) Alike s t u
+  meet : (n : ℕ) (s : State) (t u : Step) → Fine c (suc (suc n)) s → IsSureIssue c s t → stepCode c s u ≡ 0
+      → (u ≡ t) ⊎ Diamond c (Fine c) (IsSureIssue c) Alike s t u
   meet n s t u f (sure-issue p h) k = issue-diamond s p (f .good) h n (f .room) u k
-  meet n s t u f (other-sure v S) k = commit-diamond s v u (f .good) S k
 
-  last : (s : State) (t u : Step) → Fine c 1 s → IsSure c s t → stepCode c s u ≡ 0
+  last : (s : State) (t u : Step) → Fine c 1 s → IsSureIssue c s t → stepCode c s u ≡ 0
       → (u ≡ t) ⊎ ((finished c (after c s u) ≡ false) × (finished c (after c s t) ≡ false))
   last s t u f (sure-issue p h) k = issue-last s p (f .good) h u k
-  last s t u f (other-sure v S) k =
-      ⊎-elim (λ e. inl e) (λ d. inr (diamond-last c (Fine c) (IsSure c) Alike s v u taken d)) (commit-diamond s v u (f .good) S k)
 
   outcomes : (a b : State) (n : ℕ) (r : List ℕ) → Alike a b → Done c a n r → Done c b n r
   outcomes a b n r (same e) d = subst (λ (s : State). Done c s n r) e d
@@ -140,7 +132,7 @@ module _ (c : Case) where
         room = ⊎-elim (λ r. inl (r .0, counted-step c (r .0) s (f .good) (r .1) t h)) (λ r. inr (omega (arith, count-after c s t .1))) (f .room);
       }
 
-  pub laws : Laws c (Fine c) (IsSure c) Alike
+  pub laws : Laws c (Fine c) (IsSureIssue c) Alike
   laws = record { kept = fine-step; taken = taken; diamond = meet; last = last; outcomes = outcomes; cuts = cuts }
 
   -- what is known of each reachable state
@@ -157,8 +149,8 @@ module _ (c : Case) where
 
   -- the same of runs, at a reachable state
   module _ (Z : Sized c) (s : State) (K : Reached s) (t : Step) (h : stepCode c s t ≡ 0) (n : ℕ) (q : sure c (suc n) s t ≡ true) where
-    -- it is sure by the one set of laws or the other
-    which : (IsSure c s t × Fine c (suc n) s) ⊎ IsSureCommit c s t
+    -- it is sure by the laws of issues or by those of commits
+    which : (IsSureIssue c s t × Fine c (suc n) s) ⊎ IsSureCommit c s t
     which = step t h q
       where
         roomy-cases : roomy c (suc n) s ≡ true → (Forward c × Counted s) ⊎ (s .count + suc n ≤ 48)
@@ -167,7 +159,7 @@ module _ (c : Case) where
             (λ l. let m = leb-true (s .count + suc n) _ l in inr (omega arith))
             (or-cases (forward c) _ h)
 
-        step : (t : Step) → stepCode c s t ≡ 0 → sure c (suc n) s t ≡ true → (IsSure c s t × Fine c (suc n) s) ⊎ IsSureCommit c s t
+        step : (t : Step) → stepCode c s t ≡ 0 → sure c (suc n) s t ≡ true → (IsSureIssue c s t × Fine c (suc n) s) ⊎ IsSureCommit c s t
         step (issue p) h q = inl (sure-issue p h, record { good = K .good; room = roomy-cases q })
         step (commit p k e) h q = inr (sure-commit (the p k e) (record { accepted = h; kinds = q }))
         step neither h q = absurd (false≢true q)
@@ -175,14 +167,14 @@ module _ (c : Case) where
     pub done-alone : (r : List ℕ) → Done c s (suc n) r → Done c (after c s t) n r
     done-alone r d =
         ⊎-elim
-        (λ w. done-sure c (Fine c) (IsSure c) Alike laws n s t r (w .1) (w .0) d)
+        (λ w. done-sure c (Fine c) (IsSureIssue c) Alike laws n s t r (w .1) (w .0) d)
         (λ S. done-sure c (λ k. Good) (IsSureCommit c) _≡_ (Sure.laws c) n s t r (K .good) S d)
         which
 
     pub open-alone : Open c s (suc n) → Open c (after c s t) n
     open-alone d =
         ⊎-elim
-        (λ w. open-sure c (Fine c) (IsSure c) Alike laws n s t (w .1) (w .0) d)
+        (λ w. open-sure c (Fine c) (IsSureIssue c) Alike laws n s t (w .1) (w .0) d)
         (λ S. open-sure c (λ k. Good) (IsSureCommit c) _≡_ (Sure.laws c) n s t (K .good) S d)
         which
 
@@ -192,7 +184,13 @@ module _ (c : Case) where
     K = reached (walk (womm c) ts (initial c) s w) reached-initial
 
     pub outcome-alone : (r : List ℕ) → OutcomeFrom (womm c) s (suc n) r ↔ OutcomeFrom (womm c) (after c s t) n r
-    outcome-alone r = (λ o. done-from c n (done-alone Z s K t h n q r (done-to c (suc n) s r o)), λ o. done-from c (suc n) (Done.later t h (done-to c n (after c s t) r o)))
+    outcome-alone r = (
+      λ o. done-from c n (done-alone Z s K t h n q r (done-to c (suc n) s r o)),
+      λ o. done-from c (suc n) (Done.later t h (done-to c n (after c s t) r o)),
+    )
 
     pub cut-alone : CutFrom (womm c) s (suc n) ↔ CutFrom (womm c) (after c s t) n
-    cut-alone = (λ o. open-from c (open-alone Z s K t h n q (open-to c (suc n) s o)), λ o. open-from c (Open.later t h (open-to c n (after c s t) o)))
+    cut-alone = (
+      λ o. open-from c (open-alone Z s K t h n q (open-to c (suc n) s o)),
+      λ o. open-from c (Open.later t h (open-to c n (after c s t) o)),
+    )
