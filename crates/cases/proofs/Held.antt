@@ -1,18 +1,18 @@
 -- The bytes of the case that a sound block holds are the block's own. Assumes nothing.
-use mathlib.Core.Path.{_≡_, refl, ap, sym, _∙_, subst}
+use mathlib.Core.Path.{_≡_, refl, ap, sym, _∙_}
 use mathlib.Core.Logic.{⊎-elim}
-use mathlib.Core.Bool.{Bool, true, false, _&&_, _||_, not, cond, false≢true}
+use mathlib.Core.Bool.{Bool, true, false, _&&_, not, false≢true}
 use mathlib.Core.List.{List, [], _∷_, _++_, append-assoc, append-nil}
 use Prim.Native.Nat.{ℕ, zero, suc, _+_, _*_, _-_, _/_, _%_, _<_, _≤_}
 use native.Mathlib.Nat.{add-zero, mul-suc, mul-zero}
 use native.Mathlib.Omega.{arith}
 use lib.Dec.{eqb, ltb, leb, lit<}
-use lib.ListN.{length, getD, take, replicate, getD-replicate, length-replicate}
-use lib.Seq.{take-suc, take-length}
-use borrow.Author.Tests.{lt-ltb, le-ltb, le-leb, lt-leb, eqb-true, eqb-false, ltb-true, ltb-false, eq-eqb, ne-eqb, not-false}
+use lib.ListN.{length, getD, take, replicate, getD-replicate}
+use lib.Seq.{take-suc}
+use borrow.Author.Tests.{lt-ltb, le-leb, eqb-true, eqb-false, ltb-false, not-false}
 use Rattle.words.specs.Small.{each, concatMap, someBelow}
-use Rattle.words.specs.Refusals.{_when_, firstOf}
-use Rattle.words.proofs.Bools.{decide, and-both, and-make, and-rest, or-none, or-left, or-right, below-make, cond-true, cond-false}
+use Rattle.words.specs.Refusals.{firstOf}
+use Rattle.words.proofs.Bools.{decide, and-make, and-rest, or-none, or-left, or-right, below-make}
 use Rattle.words.proofs.First.{first-none, not-yes}
 use Rattle.words.proofs.Lists.{each-is, each-more, concatMap-append}
 use Rattle.cases.specs.declared.Instr.{Instr}

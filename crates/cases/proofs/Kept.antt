@@ -1,8 +1,7 @@
 -- The case that the bytes of a case hold is the case. Assumes nothing.
-use mathlib.Core.Path.{_≡_, refl, ap, sym, _∙_, subst}
+use mathlib.Core.Path.{_≡_, refl, ap, sym, _∙_}
 use mathlib.Core.List.{List, [], _∷_, _++_, append-assoc}
-use Prim.Native.Nat.{ℕ, zero, suc, _+_, _*_, _/_, _%_, _<_, _≤_}
-use native.Mathlib.Nat.{add-zero}
+use Prim.Native.Nat.{ℕ, _+_, _*_, _<_}
 use native.Mathlib.Omega.{arith}
 use lib.ListN.{length, getD, replicate, length-append}
 use Rattle.words.specs.Small.{each, concatMap}
@@ -10,11 +9,11 @@ use Rattle.words.proofs.Lists.{each-is, each-same, each-mid, getD-mid, concatMa
 use Rattle.cases.specs.declared.Instr.the-variants.{Empty}
 use Rattle.cases.specs.declared.Slot.{Slot}
 use Rattle.cases.specs.declared.Case.{Case}
-use Rattle.cases.specs.Instruction.{two, instrOf, instrBytes}
+use Rattle.cases.specs.Instruction.{two, instrOf}
 use Rattle.cases.specs.Block.{byte, word, slotAt, caseOf, contents}
 use Rattle.cases.proofs.Decoding.{case-is}
 use Rattle.cases.proofs.Puts.{slotBytes, two-wide, six-wide}
-use Rattle.cases.proofs.Slots.{two-back, readBytes, instr-back}
+use Rattle.cases.proofs.Slots.{two-back, instr-back}
 
 -- what a case is read off lies in bytes 0 to 509
 module _ (s t : List ℕ) (same : (i : ℕ) → i < 510 → getD s i 0 ≡ getD t i 0) where

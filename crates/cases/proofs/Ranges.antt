@@ -1,11 +1,8 @@
 -- The block that holds a case is made of bytes. Assumes nothing.
-use mathlib.Core.Path.{_≡_, refl, ap, sym, _∙_, subst}
 use mathlib.Core.List.{List, [], _∷_, _++_}
-use Prim.Native.Nat.{ℕ, zero, suc, _+_, _*_, _-_, _/_, _%_, _<_, _≤_}
+use Prim.Native.Nat.{ℕ, zero, suc, _<_}
 use native.Mathlib.Omega.{arith}
-use native.Mathlib.Decide.{decLt}
-use lib.ListN.{length, getD, replicate, getD-replicate, length-replicate, List·getD-append, List·getD-eq-default}
-use lib.Seq.{getD-append-add}
+use lib.ListN.{getD, replicate}
 use Rattle.words.specs.Small.{concatMap}
 use Rattle.cases.specs.declared.Expr.{Expr}
 use Rattle.cases.specs.declared.Expr.the-variants.{Constant, Sum, Difference, Equal}
@@ -15,7 +12,7 @@ use Rattle.cases.specs.declared.Slot.{Slot}
 use Rattle.cases.specs.declared.Case.{Case}
 use Rattle.cases.specs.Instruction.{two, six, localBytes, instrBytes}
 use Rattle.cases.specs.Block.{check, contents, blockOf}
-use Rattle.cases.specs.Formed.{Bytes, Below, ExprFits, InstrFits, Formed}
+use Rattle.cases.specs.Formed.{Bytes, ExprFits, InstrFits, Formed}
 
 pub nil-bytes : Bytes []
 nil-bytes = record { each = λ i. omega arith }

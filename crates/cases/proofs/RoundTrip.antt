@@ -1,25 +1,24 @@
 -- Reading and writing undo each other, both ways; each answer is the only one. Assumes nothing.
 use mathlib.Core.Path.{_≡_, refl, ap, sym, _∙_, subst}
 use mathlib.Core.Logic.{_↔_}
-use mathlib.Core.Bool.{not}
-use mathlib.Core.List.{List, [], _∷_, _++_}
+use mathlib.Core.List.{List, _++_}
 use Prim.Native.Nat.{ℕ, zero, suc, _+_, _*_, _<_}
 use native.Mathlib.Omega.{arith}
 use lib.Dec.{eqb}
 use lib.ListN.{length, getD, take, replicate, length-append, List·getD-append}
-use lib.Seq.{take-all, take-append-le, getD-take, getD-append-add}
+use lib.Seq.{take-all, getD-take, getD-append-add}
 use borrow.Author.Tests.{eqb-true, eq-eqb, not-false}
-use Rattle.words.specs.Refusals.{_when_, firstOf}
+use Rattle.words.specs.Refusals.{firstOf}
 use Rattle.words.proofs.Bools.{cond-true}
 use Rattle.words.proofs.First.{first-none}
 use Rattle.cases.specs.declared.Case.{Case}
 use Rattle.cases.specs.declared.CaseRead.{CaseRead}
 use Rattle.cases.specs.Instruction.{two}
-use Rattle.cases.specs.Block.{byte, word, check, faults, refusals, caseOf, readOf, answered, contents, blockOf, Sound, writeCode, written}
+use Rattle.cases.specs.Block.{word, check, faults, refusals, caseOf, readOf, answered, contents, blockOf, Sound, writeCode, written}
 use Rattle.cases.specs.Formed.{Bytes, Formed, Held}
 use Rattle.cases.proofs.Agree.{faults-same, check-same}
 use Rattle.cases.proofs.Decoding.{read-accepted, past-check}
-use Rattle.cases.proofs.Held.{Clean, clean, contents-back, word-part}
+use Rattle.cases.proofs.Held.{clean, contents-back, word-part}
 use Rattle.cases.proofs.Kept.{case-same, contents-long, contents-kept}
 use Rattle.cases.proofs.Ranges.{block-bytes}
 use Rattle.cases.proofs.Slots.{two-back}

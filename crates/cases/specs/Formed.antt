@@ -8,7 +8,6 @@ use Rattle.cases.specs.declared.Expr.the-variants.{Constant, Sum, Differ
 use Rattle.cases.specs.declared.Instr.{Instr}
 use Rattle.cases.specs.declared.Instr.the-variants.{Empty, Read, Write, Local, Branch, Goto, Acquire, Release}
 use Rattle.cases.specs.declared.Case.{Case}
-use Rattle.cases.specs.declared.CaseRead.{CaseRead}
 use Rattle.cases.specs.Case.{slotIn}
 use Rattle.cases.specs.Block.{readOf}
 

@@ -1,12 +1,12 @@
 -- Lists that are made of a function: elements and lengths. Assumes nothing.
-use mathlib.Core.Path.{_≡_, refl, ap, sym, _∙_, subst}
-use mathlib.Core.Bool.{Bool, true, _&&_}
+use mathlib.Core.Path.{_≡_, refl, ap, sym, _∙_}
+use mathlib.Core.Bool.{Bool, true}
 use mathlib.Core.List.{List, [], _∷_, _++_, map, append-assoc, append-nil}
-use Prim.Native.Nat.{ℕ, zero, suc, _+_, _*_, _<_, _≤_}
-use native.Mathlib.Nat.{add-zero, zero-add, mul-zero, mul-suc, add-assoc, add-comm}
+use Prim.Native.Nat.{ℕ, zero, suc, _+_, _*_, _<_}
+use native.Mathlib.Nat.{add-zero, zero-add, mul-zero, mul-suc}
 use native.Mathlib.Omega.{arith}
 use native.Mathlib.Decide.{decLt}
-use lib.ListN.{length, getD, take, set, length-append, length-map, List·getD-append, List·getD-eq-default}
+use lib.ListN.{length, getD, take, set, length-append, length-map, List·getD-append}
 use lib.Seq.{ext-getD, getD-append-add, getD-set-same, getD-set-other, take-suc}
 use Rattle.words.specs.Small.{all, each, counting, concatMap}
 use Rattle.words.proofs.Bools.{and-both}
