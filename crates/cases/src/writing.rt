@@ -9,9 +9,8 @@ ghost use mathlib.Core.List.{_++_};
 ghost use Prim.Native.Nat.{_+_, _*_, _-_, _≤_, _<_};
 ghost use lib.ListN.{length, take, replicate};
 ghost use Rattle.words.specs.Small.{concatMap};
-ghost use Rattle.cases.specs.declared.Slot.{Slot as Held};
 ghost use Rattle.cases.specs.Instruction.{two as twoOf, six as sixOf, localBytes, instrBytes};
-ghost use Rattle.cases.specs.Block.{contents, check as checkOf};
+ghost use Rattle.cases.specs.Block.{slotBytes, contents, check as checkOf};
 ghost use Rattle.cases.specs.Putting.{Put};
 
 // A two-byte number, low byte first.
@@ -92,7 +91,7 @@ fn put_words(block: &mut [u8], at: usize, words: &[u16])
 
 fn put_code(block: &mut [u8], code: [Slot; 48])
     requires { ⌜ length (now block) ≡ 512 ⌝ }
-    ensures { λ _. ⌜ Put (now (block .entry)) 92 (concatMap (λ (s : Held). instrBytes (s .instr)) code) (now (block .exit)) ⌝ }
+    ensures { λ _. ⌜ Put (now (block .entry)) 92 (concatMap slotBytes code) (now (block .exit)) ⌝ }
 {
     let mut n: usize = 0;
     while n < 48 {

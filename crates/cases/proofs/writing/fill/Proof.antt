@@ -1,3 +1,4 @@
+-- Seven parts put one behind the other are the contents of the case (`filled`).
 use mathlib.Core.Path.{_≡_, _∙_}
 use native.Mathlib.Omega.{arith}
 use lib.ListN.{length}
