@@ -5,8 +5,8 @@ use Prim.Native.Nat.{ℕ, suc, _+_, _*_, _-_, _<_, _≤_}
 use native.Mathlib.Nat.{add-zero, mul-suc, mul-zero}
 use native.Mathlib.Numerals.{add-one}
 use native.Mathlib.Omega.{arith}
-use lib.ListN.{length, getD, take, set, replicate, length-map, replicate-append-replicate}
-use lib.Seq.{take-suc-set, take-suc, take-length, length-take-le, take-append-add, take-all}
+use lib.ListN.{length, getD, take, set, replicate, length-append, length-map, replicate-append-replicate}
+use lib.Seq.{take-suc-set, take-suc, take-length, length-take-le, take-append-add, take-all, take-at}
 use Rattle.words.specs.Small.{concatMap}
 use Rattle.words.proofs.Lists.{concatMap-more, concatMap-length}
 use Rattle.cases.specs.declared.Expr.{Expr}
@@ -123,13 +123,33 @@ take-front s t k n h = ap (λ (m : ℕ). take (m + n) (s ++ t)) (sym h) ∙ take
 put-on : (front s new s′ : List ℕ) (k n : ℕ) → take k s ≡ front → k + length new ≡ n → Put s k new s′ → take n s′ ≡ front ++ new
 put-on front s new s′ k n e q p = ap (λ (m : ℕ). take m s′) (sym q) ∙ p .front ∙ ap (λ (l : List ℕ). l ++ new) e
 
-module _ (c : Case) (counts : length (c .counts) ≡ 4) (masks : length (c .masks) ≡ 4) (presets : length (c .presets) ≡ 32) (memory : length (c .memory) ≡ 8) (code : length (c .code) ≡ 48) where
-  pub filled : (s₀ s₁ s₂ s₃ s₄ s₅ s₆ s₇ : List ℕ) → length s₆ ≡ 512 → Put s₀ 0 (c .procs ∷ c .locs ∷ c .bound ∷ 0 ∷ []) s₁ → Put s₁ 4 (c .counts) s₂ → Put s₂ 8 (c .masks) s₃ → Put s₃ 12 (concatMap two (c .presets)) s₄ → Put s₄ 76 (concatMap two (c .memory)) s₅ → Put s₅ 92 (concatMap slotBytes (c .code)) s₆ → s₇ ≡ take 380 s₆ ++ replicate (length s₆ - 380) 0 → take 510 s₇ ≡ contents c
+module _ (c : Case) (counts : length (c .counts) ≡ 4) (masks : length (c .masks) ≡ 4) where
+  -- bytes 0 to 11
+  abbrev head : List ℕ
+  head = ((c .procs ∷ c .locs ∷ c .bound ∷ 0 ∷ []) ++ c .counts) ++ c .masks
+
+  head-long : length head ≡ 12
+  head-long = omega (arith, length-append ((c .procs ∷ c .locs ∷ c .bound ∷ 0 ∷ []) ++ c .counts) (c .masks), length-append (c .procs ∷ c .locs ∷ c .bound ∷ 0 ∷ []) (c .counts))
+
+  head-is : take 12 (contents c) ≡ head
   unfolding contents
-  filled s₀ s₁ s₂ s₃ s₄ s₅ s₆ s₇ long p₁ p₂ p₃ p₄ p₅ p₆ e =
-      let e₁ = p₁ .front in
-      let e₂ = put-on _ s₁ (c .counts) s₂ 4 8 e₁ (omega arith) p₂ in
+  head-is =
+      let rest = concatMap two (c .presets) ++ (concatMap two (c .memory) ++ (concatMap slotBytes (c .code) ++ replicate 130 0)) in
+      let whole : contents c ≡ head ++ rest = sym (simp append-assoc) in
+      ap (take 12) whole ∙ take-at head rest 12 head-long
+
+  pub headed : (s₀ s₁ s₂ s₃ : List ℕ) → Put s₀ 0 (c .procs ∷ c .locs ∷ c .bound ∷ 0 ∷ []) s₁ → Put s₁ 4 (c .counts) s₂ → Put s₂ 8 (c .masks) s₃ → Put s₀ 0 (take 12 (contents c)) s₃
+  headed s₀ s₁ s₂ s₃ p₁ p₂ p₃ =
+      let e₂ = put-on _ s₁ (c .counts) s₂ 4 8 (p₁ .front) (omega arith) p₂ in
       let e₃ = put-on _ s₂ (c .masks) s₃ 8 12 e₂ (omega arith) p₃ in
+      let n = ap length head-is ∙ head-long in
+      record { long = p₃ .long ∙ p₂ .long ∙ p₁ .long; front = ap (λ (n : ℕ). take (0 + n) s₃) n ∙ e₃ ∙ sym head-is }
+
+  pub filled : length (c .presets) ≡ 32 → length (c .memory) ≡ 8 → length (c .code) ≡ 48 → (s₀ s₃ s₄ s₅ s₆ s₇ : List ℕ) → length s₆ ≡ 512 → Put s₀ 0 (take 12 (contents c)) s₃ → Put s₃ 12 (concatMap two (c .presets)) s₄ → Put s₄ 76 (concatMap two (c .memory)) s₅ → Put s₅ 92 (concatMap slotBytes (c .code)) s₆ → s₇ ≡ take 380 s₆ ++ replicate (length s₆ - 380) 0 → take 510 s₇ ≡ contents c
+  unfolding contents
+  filled presets memory code s₀ s₃ s₄ s₅ s₆ s₇ long p₃ p₄ p₅ p₆ e =
+      let n : 12 ≡ 0 + length (take 12 (contents c)) = omega (arith, ap length head-is ∙ head-long) in
+      let e₃ = ap (λ (n : ℕ). take n s₃) n ∙ p₃ .front ∙ head-is in
       let e₄ = put-on _ s₃ (concatMap two (c .presets)) s₄ 12 76 e₃ (omega (arith, concatMap-length two 2 two-wide (c .presets))) p₄ in
       let e₅ = put-on _ s₄ (concatMap two (c .memory)) s₅ 76 92 e₄ (omega (arith, concatMap-length two 2 two-wide (c .memory))) p₅ in
       let e₆ = put-on _ s₅ (concatMap slotBytes (c .code)) s₆ 92 380 e₅ (omega (arith, concatMap-length slotBytes 6 six-wide (c .code))) p₆ in
