@@ -17,10 +17,9 @@ use Rattle.words.proofs.First.{first-none, not-yes}
 use Rattle.words.proofs.Lists.{each-is, each-more, concatMap-append}
 use Rattle.cases.specs.declared.Instr.{Instr}
 use Rattle.cases.specs.Instruction.{two, instrOf, instrBytes, fieldAt, badField}
-use Rattle.cases.specs.Block.{within, procAt, numberAt, byteAt, byte, word, marked, used, bad3, bad4, badByte, bad6, bad7, faults, slotAt, caseOf, contents}
+use Rattle.cases.specs.Block.{within, procAt, numberAt, byteAt, byte, word, marked, used, bad3, bad4, badByte, bad6, bad7, faults, slotAt, slotBytes, caseOf, contents}
 use Rattle.cases.specs.Formed.{Bytes}
 use Rattle.cases.proofs.Fields.{op-byte, field-byte}
-use Rattle.cases.proofs.Puts.{slotBytes}
 use Rattle.cases.proofs.Slots.{two-of, bytes-back}
 
 -- a test that nobody passes

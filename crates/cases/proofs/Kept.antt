@@ -10,9 +10,9 @@ use Rattle.cases.specs.declared.Instr.the-variants.{Empty}
 use Rattle.cases.specs.declared.Slot.{Slot}
 use Rattle.cases.specs.declared.Case.{Case}
 use Rattle.cases.specs.Instruction.{two, instrOf}
-use Rattle.cases.specs.Block.{byte, word, slotAt, caseOf, contents}
+use Rattle.cases.specs.Block.{byte, word, slotAt, slotBytes, caseOf, contents}
 use Rattle.cases.proofs.Decoding.{case-is}
-use Rattle.cases.proofs.Puts.{slotBytes, two-wide, six-wide}
+use Rattle.cases.proofs.Puts.{two-wide, six-wide}
 use Rattle.cases.proofs.Slots.{two-back, instr-back}
 
 -- what a case is read off lies in bytes 0 to 509

@@ -1,8 +1,9 @@
 pub mod Lowest
 pub mod Fields
 pub mod Agree
-pub mod Puts
 pub mod Decoding
+pub mod Puts
+pub mod Written
 pub mod Slots
 pub mod Ranges
 pub mod Held

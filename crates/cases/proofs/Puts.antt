@@ -1,19 +1,13 @@
 -- Buffers that are filled from the front on. Assumes nothing.
 use mathlib.Core.Path.{_≡_, refl, ap, sym, _∙_}
-use mathlib.Core.Bool.{not}
 use mathlib.Core.List.{List, [], _∷_, _++_, map, append-assoc, append-nil}
 use Prim.Native.Nat.{ℕ, suc, _+_, _*_, _-_, _<_, _≤_}
 use native.Mathlib.Nat.{add-zero, mul-suc, mul-zero}
 use native.Mathlib.Numerals.{add-one}
 use native.Mathlib.Omega.{arith}
-use lib.Dec.{eqb}
-use lib.ListN.{length, getD, take, set, replicate, length-map, replicate-append-replicate}
-use lib.Seq.{take-suc-set, take-suc, take-length, length-take-le, take-append-add, take-all, getD-take}
-use borrow.Author.Tests.{eq-eqb, ne-eqb}
+use lib.ListN.{length, getD, take, set, replicate, length-append, length-map, replicate-append-replicate}
+use lib.Seq.{take-suc-set, take-suc, take-length, length-take-le, take-append-add, take-all, take-at}
 use Rattle.words.specs.Small.{concatMap}
-use Rattle.words.specs.Refusals.{_when_, firstOf}
-use Rattle.words.proofs.Bools.{cond-true, cond-false}
-use Rattle.words.proofs.First.{hit, first, not-yes}
 use Rattle.words.proofs.Lists.{concatMap-more, concatMap-length}
 use Rattle.cases.specs.declared.Expr.{Expr}
 use Rattle.cases.specs.declared.Expr.the-variants.{Constant, Sum, Difference, Equal}
@@ -22,11 +16,7 @@ use Rattle.cases.specs.declared.Instr.the-variants.{Empty, Read, Write, 
 use Rattle.cases.specs.declared.Slot.{Slot}
 use Rattle.cases.specs.declared.Case.{Case}
 use Rattle.cases.specs.Instruction.{two, localBytes, instrBytes}
-use Rattle.cases.specs.Block.{faults, check, contents, blockOf, writeCode, written}
-use Rattle.cases.specs.declared.Fault.{Fault}
-use Rattle.cases.specs.Faults.{faultOf}
-use Rattle.cases.proofs.Agree.{faults-same, check-same}
-use Rattle.cases.proofs.Decoding.{fault-code}
+use Rattle.cases.specs.Block.{check, slotBytes, contents}
 use Rattle.cases.specs.Putting.{Put}
 
 -- put: one byte more
@@ -104,13 +94,10 @@ zeros-none b from =
 
 -- fill: the parts one after the other
 
-abbrev pub slotBytes : Slot → List ℕ
-slotBytes s = instrBytes (s .instr)
-
 pub two-wide : (n : ℕ) → length (two n) ≡ 2
 two-wide n = refl
 
-pub six-wide : (s : Slot) → length (instrBytes (s .instr)) ≡ 6
+pub six-wide : (s : Slot) → length (slotBytes s) ≡ 6
 six-wide s = wide (s .instr)
   where
     local-wide : (d : ℕ) (e : Expr) → length (localBytes d e) ≡ 6
@@ -136,13 +123,33 @@ take-front s t k n h = ap (λ (m : ℕ). take (m + n) (s ++ t)) (sym h) ∙ take
 put-on : (front s new s′ : List ℕ) (k n : ℕ) → take k s ≡ front → k + length new ≡ n → Put s k new s′ → take n s′ ≡ front ++ new
 put-on front s new s′ k n e q p = ap (λ (m : ℕ). take m s′) (sym q) ∙ p .front ∙ ap (λ (l : List ℕ). l ++ new) e
 
-module _ (c : Case) (counts : length (c .counts) ≡ 4) (masks : length (c .masks) ≡ 4) (presets : length (c .presets) ≡ 32) (memory : length (c .memory) ≡ 8) (code : length (c .code) ≡ 48) where
-  pub filled : (s₀ s₁ s₂ s₃ s₄ s₅ s₆ s₇ : List ℕ) → length s₆ ≡ 512 → Put s₀ 0 (c .procs ∷ c .locs ∷ c .bound ∷ 0 ∷ []) s₁ → Put s₁ 4 (c .counts) s₂ → Put s₂ 8 (c .masks) s₃ → Put s₃ 12 (concatMap two (c .presets)) s₄ → Put s₄ 76 (concatMap two (c .memory)) s₅ → Put s₅ 92 (concatMap (λ (s : Slot). instrBytes (s .instr)) (c .code)) s₆ → s₇ ≡ take 380 s₆ ++ replicate (length s₆ - 380) 0 → take 510 s₇ ≡ contents c
+module _ (c : Case) (counts : length (c .counts) ≡ 4) (masks : length (c .masks) ≡ 4) where
+  -- bytes 0 to 11
+  abbrev head : List ℕ
+  head = ((c .procs ∷ c .locs ∷ c .bound ∷ 0 ∷ []) ++ c .counts) ++ c .masks
+
+  head-long : length head ≡ 12
+  head-long = omega (arith, length-append ((c .procs ∷ c .locs ∷ c .bound ∷ 0 ∷ []) ++ c .counts) (c .masks), length-append (c .procs ∷ c .locs ∷ c .bound ∷ 0 ∷ []) (c .counts))
+
+  head-is : take 12 (contents c) ≡ head
   unfolding contents
-  filled s₀ s₁ s₂ s₃ s₄ s₅ s₆ s₇ long p₁ p₂ p₃ p₄ p₅ p₆ e =
-      let e₁ = p₁ .front in
-      let e₂ = put-on _ s₁ (c .counts) s₂ 4 8 e₁ (omega arith) p₂ in
+  head-is =
+      let rest = concatMap two (c .presets) ++ (concatMap two (c .memory) ++ (concatMap slotBytes (c .code) ++ replicate 130 0)) in
+      let whole : contents c ≡ head ++ rest = sym (simp append-assoc) in
+      ap (take 12) whole ∙ take-at head rest 12 head-long
+
+  pub headed : (s₀ s₁ s₂ s₃ : List ℕ) → Put s₀ 0 (c .procs ∷ c .locs ∷ c .bound ∷ 0 ∷ []) s₁ → Put s₁ 4 (c .counts) s₂ → Put s₂ 8 (c .masks) s₃ → Put s₀ 0 (take 12 (contents c)) s₃
+  headed s₀ s₁ s₂ s₃ p₁ p₂ p₃ =
+      let e₂ = put-on _ s₁ (c .counts) s₂ 4 8 (p₁ .front) (omega arith) p₂ in
       let e₃ = put-on _ s₂ (c .masks) s₃ 8 12 e₂ (omega arith) p₃ in
+      let n = ap length head-is ∙ head-long in
+      record { long = p₃ .long ∙ p₂ .long ∙ p₁ .long; front = ap (λ (n : ℕ). take (0 + n) s₃) n ∙ e₃ ∙ sym head-is }
+
+  pub filled : length (c .presets) ≡ 32 → length (c .memory) ≡ 8 → length (c .code) ≡ 48 → (s₀ s₃ s₄ s₅ s₆ s₇ : List ℕ) → length s₆ ≡ 512 → Put s₀ 0 (take 12 (contents c)) s₃ → Put s₃ 12 (concatMap two (c .presets)) s₄ → Put s₄ 76 (concatMap two (c .memory)) s₅ → Put s₅ 92 (concatMap slotBytes (c .code)) s₆ → s₇ ≡ take 380 s₆ ++ replicate (length s₆ - 380) 0 → take 510 s₇ ≡ contents c
+  unfolding contents
+  filled presets memory code s₀ s₃ s₄ s₅ s₆ s₇ long p₃ p₄ p₅ p₆ e =
+      let n : 12 ≡ 0 + length (take 12 (contents c)) = omega (arith, ap length head-is ∙ head-long) in
+      let e₃ = ap (λ (n : ℕ). take n s₃) n ∙ p₃ .front ∙ head-is in
       let e₄ = put-on _ s₃ (concatMap two (c .presets)) s₄ 12 76 e₃ (omega (arith, concatMap-length two 2 two-wide (c .presets))) p₄ in
       let e₅ = put-on _ s₄ (concatMap two (c .memory)) s₅ 76 92 e₄ (omega (arith, concatMap-length two 2 two-wide (c .memory))) p₅ in
       let e₆ = put-on _ s₅ (concatMap slotBytes (c .code)) s₆ 92 380 e₅ (omega (arith, concatMap-length slotBytes 6 six-wide (c .code))) p₆ in
@@ -165,37 +172,3 @@ signed b b′ pair sum long e q p =
     sym (take-all 512 b′ (omega (arith, p .long)))
     ∙ put-on (take 510 b) b pair b′ 510 512 refl (omega (arith, ap length q)) p
     ∙ ap (λ (l : List ℕ). take 510 b ++ l) (q ∙ ap two e)
-
--- write_case
-
-module _ (c : Case) where
-  pub no-room : (b b′ : List ℕ) → (length b ≡ 512 → ⊥) → b′ ≡ take 0 b ++ replicate (length b - 0) 0 → (1 ≡ writeCode c (length b)) × (b′ ≡ written c (length b))
-  unfolding written writeCode
-  no-room b b′ h e =
-      let q = first (1 when not (eqb (length b) 512) ∷ faults (contents c)) (hit (not-yes _ (ne-eqb (length b) 512 h))) in
-      let n : length b - 0 ≡ length b = omega arith in
-      (q, e ∙ ap (λ (n : ℕ). replicate n 0) n ∙ sym (cond-false (eqb (writeCode c (length b)) 0) (blockOf c) (replicate (length b) 0) (ap (λ (n : ℕ). eqb n 0) (sym q))))
-
-  module _ (b s : List ℕ) (size : length b ≡ 512) (long : length s ≡ 512) (front : take 510 s ≡ contents c) where
-    agrees : (i : ℕ) → i < 510 → getD s i 0 ≡ getD (contents c) i 0
-    agrees i h = sym (getD-take 510 s i 0 h) ∙ ap (λ (l : List ℕ). getD l i 0) front
-
-    code-is : (f : Fault) → f ≡ faultOf s → f .code ≡ writeCode c (length b)
-    unfolding writeCode firstOf
-    code-is f e = fault-code s f e ∙ faults-same s (contents c) agrees ∙ rw (eq-eqb (length b) 512 size)
-
-    pub refused : (f : Fault) (b′ : List ℕ) → f ≡ faultOf s → (f .code ≡ 0 → ⊥) → b′ ≡ take 0 s ++ replicate (length s - 0) 0 → (f .code ≡ writeCode c (length b)) × (b′ ≡ written c (length b))
-    unfolding written
-    refused f b′ e h z =
-        let q = code-is f e in
-        let n : length s - 0 ≡ length b = omega arith in
-        (q, z ∙ ap (λ (n : ℕ). replicate n 0) n ∙ sym (cond-false (eqb (writeCode c (length b)) 0) (blockOf c) (replicate (length b) 0) (ne-eqb _ 0 (λ w. h (q ∙ w)))))
-
-    pub accepted : (f : Fault) (b′ : List ℕ) → f ≡ faultOf s → f .code ≡ 0 → b′ ≡ take 510 s ++ two (check s) → (0 ≡ writeCode c (length b)) × (b′ ≡ written c (length b))
-    unfolding written blockOf
-    accepted f b′ e h z =
-        let q = sym h ∙ code-is f e in (
-          q,
-          z ∙ ap (λ (l : List ℕ). l ++ two (check s)) front ∙ ap (λ (n : ℕ). contents c ++ two n) (check-same s (contents c) agrees)
-              ∙ sym (cond-true (eqb (writeCode c (length b)) 0) (blockOf c) (replicate (length b) 0) (eq-eqb _ 0 (sym q))),
-        )

@@ -8,10 +8,9 @@ use Rattle.cases.specs.declared.Expr.{Expr}
 use Rattle.cases.specs.declared.Expr.the-variants.{Constant, Sum, Difference, Equal}
 use Rattle.cases.specs.declared.Instr.{Instr}
 use Rattle.cases.specs.declared.Instr.the-variants.{Empty, Read, Write, Local, Branch, Goto, Acquire, Release}
-use Rattle.cases.specs.declared.Slot.{Slot}
 use Rattle.cases.specs.declared.Case.{Case}
 use Rattle.cases.specs.Instruction.{two, six, localBytes, instrBytes}
-use Rattle.cases.specs.Block.{check, contents, blockOf}
+use Rattle.cases.specs.Block.{check, slotBytes, contents, blockOf}
 use Rattle.cases.specs.Formed.{Bytes, ExprFits, InstrFits, Formed}
 
 pub nil-bytes : Bytes []
@@ -73,6 +72,6 @@ block-bytes c f =
     (append-bytes (c .masks) (f .masks .1)
     (append-bytes (concatMap two (c .presets)) (concat-bytes two 0 (c .presets) (λ i. two-bytes (getD (c .presets) i 0) (f .presets .1 .each i)))
     (append-bytes (concatMap two (c .memory)) (concat-bytes two 0 (c .memory) (λ i. two-bytes (getD (c .memory) i 0) (f .memory .1 .each i)))
-    (append-bytes (concatMap (λ (s : Slot). instrBytes (s .instr)) (c .code)) (concat-bytes (λ (s : Slot). instrBytes (s .instr)) (record { instr = Empty }) (c .code) (λ i. instr-bytes (getD (c .code) i (record { instr = Empty }) .instr) (f .code .1 i)))
+    (append-bytes (concatMap slotBytes (c .code)) (concat-bytes slotBytes (record { instr = Empty }) (c .code) (λ i. instr-bytes (getD (c .code) i (record { instr = Empty }) .instr) (f .code .1 i)))
     (zero-bytes 130))))))))))
     (two-bytes (check (contents c)) (omega arith))

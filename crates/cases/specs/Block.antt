@@ -157,6 +157,10 @@ answered (suc n) c = record { code = suc n; case = nothing }
 unfoldable pub readOf : List ℕ → CaseRead
 readOf s = answered (firstOf (refusals s)) (caseOf s)
 
+-- The six bytes of a slot.
+abbrev pub slotBytes : Slot → List ℕ
+slotBytes slot = instrBytes (slot .instr)
+
 -- Bytes 0 to 509 of the block that holds a case, in their order.
 unfoldable pub contents : Case → List ℕ
 contents c =
@@ -167,7 +171,7 @@ contents c =
     ∷ (c .counts
     ++ (c .masks
     ++ (concatMap two (c .presets)
-    ++ (concatMap two (c .memory) ++ (concatMap (λ (slot : Slot). instrBytes (slot .instr)) (c .code) ++ replicate 130 0)))))
+    ++ (concatMap two (c .memory) ++ (concatMap slotBytes (c .code) ++ replicate 130 0)))))
 
 -- The block that holds a case, check included.
 unfoldable pub blockOf : Case → List ℕ

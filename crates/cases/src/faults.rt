@@ -19,30 +19,35 @@ fn past(from: usize, i: usize) -> usize
     i - from
 }
 
+// Position i is one of from, from + 1, .., to - 1.
 fn within(from: usize, to: usize, i: usize) -> bool
     ensures { λ r. ⌜ r ≡ withinOf from to i ⌝ }
 {
     (from <= i) & (i < to)
 }
 
+// The byte at position i is not zero.
 fn marked(block: &[u8], i: usize) -> bool
     ensures { λ r. ⌜ r ≡ isMarked (now (block .entry)) i ⌝ }
 {
     !(byte(block, i) == 0)
 }
 
+// Processor p is absent.
 fn no_proc(block: &[u8], p: usize) -> bool
     ensures { λ r. ⌜ r ≡ noProc (now (block .entry)) p ⌝ }
 {
     number(block, 0) <= p
 }
 
+// Location l is absent.
 fn no_loc(block: &[u8], l: usize) -> bool
     ensures { λ r. ⌜ r ≡ noLoc (now (block .entry)) l ⌝ }
 {
     number(block, 1) <= l
 }
 
+// Instruction n of processor p is used.
 fn used(block: &[u8], p: usize, n: usize) -> bool
     requires { ⌜ p < 510 ⌝ }
     ensures { λ r. ⌜ r ≡ isUsed (now (block .entry)) p n ⌝ }
@@ -50,6 +55,7 @@ fn used(block: &[u8], p: usize, n: usize) -> bool
     n < number(block, 4 + p)
 }
 
+// Code 3: bytes 0 to 3.
 fn bad3(block: &[u8], i: usize) -> bool
     ensures { λ r. ⌜ r ≡ isBad3 (now (block .entry)) i ⌝ }
 {
@@ -62,12 +68,14 @@ fn bad3(block: &[u8], i: usize) -> bool
         | ((i == 3) & marked(block, 3))
 }
 
+// Code 4: counts.
 fn bad4(block: &[u8], i: usize) -> bool
     ensures { λ r. ⌜ r ≡ isBad4 (now (block .entry)) i ⌝ }
 {
     within(4, 8, i) & ((12 < number(block, i)) | (no_proc(block, past(4, i)) & marked(block, i)))
 }
 
+// A byte of 8..91 that must be zero.
 fn zero5(block: &[u8], i: usize) -> bool
     requires { ⌜ i < 510 ⌝ }
     ensures { λ r. ⌜ r ≡ mustBeZero5 (now (block .entry)) i ⌝ }
@@ -80,6 +88,7 @@ fn zero5(block: &[u8], i: usize) -> bool
         | (within(76, 92, i) & no_loc(block, past(76, i) / 2))
 }
 
+// Code 5: such a byte that is not.
 fn bad5(block: &[u8], i: usize) -> bool
     requires { ⌜ i < 510 ⌝ }
     ensures { λ r. ⌜ r ≡ isBad5 (now (block .entry)) i ⌝ }
@@ -89,56 +98,67 @@ fn bad5(block: &[u8], i: usize) -> bool
 
 // The five bytes after each op from 0 to 10: 0 zero, 1 a register, 2 any byte, 3 the low byte of a label.
 const FIELDS: [u8; 55] = [
+    // 0: no instruction
     0,
     0,
     0,
     0,
     0,
+    // 1: read
     1,
     1,
     0,
     0,
     0,
+    // 2: write
     0,
     1,
     1,
     0,
     0,
+    // 3: constant
     1,
     0,
     0,
     2,
     2,
+    // 4: sum
     1,
     1,
     1,
     0,
     0,
+    // 5: difference
     1,
     1,
     1,
     0,
     0,
+    // 6: equal
     1,
     1,
     1,
     0,
     0,
+    // 7: branch
     0,
     1,
     0,
     3,
     2,
+    // 8: goto
     0,
     0,
     0,
     3,
     2,
+    // 9: acquire
     0,
     1,
     0,
     0,
     0,
+    // 10: release
     0,
     1,
     0,
@@ -157,12 +177,14 @@ fn field(op: usize, k: usize) -> u8
     0
 }
 
+// The byte v is bad for this field; a label is w, of a processor with n instructions.
 fn bad_field(field: u8, n: usize, v: usize, w: usize) -> bool
     ensures { λ r. ⌜ r ≡ badField (fieldOf field) n v w ⌝ }
 {
     ((field == 0) & !(v == 0)) | ((field == 1) & (8 <= v)) | ((2 < field) & (n < w))
 }
 
+// The byte at position i of a slot with this op, of a processor with n instructions, is bad.
 fn bad_byte(block: &[u8], op: usize, n: usize, i: usize) -> bool
     requires { ⌜ i < 510 ⌝ }
     ensures { λ r. ⌜ r ≡ badByte (now (block .entry)) op n i ⌝ }
@@ -174,6 +196,7 @@ fn bad_byte(block: &[u8], op: usize, n: usize, i: usize) -> bool
     bad_field(field(op, k - 1), n, number(block, i), word(block, i))
 }
 
+// Code 6: used instructions.
 fn bad6(block: &[u8], i: usize) -> bool
     requires { ⌜ i < 510 ⌝ }
     ensures { λ r. ⌜ r ≡ isBad6 (now (block .entry)) i ⌝ }
@@ -185,6 +208,7 @@ fn bad6(block: &[u8], i: usize) -> bool
         & bad_byte(block, op, number(block, 4 + p), i)
 }
 
+// Code 7: unused slots, and 380..509.
 fn bad7(block: &[u8], i: usize) -> bool
     requires { ⌜ i < 510 ⌝ }
     ensures { λ r. ⌜ r ≡ isBad7 (now (block .entry)) i ⌝ }

@@ -10,7 +10,7 @@ use crate::bytes::word;
 use crate::faults::judge;
 ghost use mathlib.Core.Path.{_≡_};
 ghost use Prim.Native.Nat.{ℕ, _+_, _*_, _≤_, _<_};
-ghost use lib.ListN.{length};
+ghost use lib.ListN.{length, replicate};
 ghost use Rattle.words.specs.Small.{each};
 ghost use Rattle.words.specs.Refusals.{firstOf};
 ghost use Rattle.cases.specs.Instruction.{instrOf};
@@ -67,13 +67,21 @@ fn slot(block: &[u8], n: usize) -> Slot
     }
 }
 
-fn read_code(block: &[u8]) -> [Slot; 48]
-    ensures { λ r. ⌜ r ≡ each 48 (slotAt (now (block .entry))) ⌝ }
+// 48 empty slots.
+fn no_code() -> [Slot; 48]
+    ensures { λ r. ⌜ r ≡ replicate 48 (record { instr = Instr.Empty }) ⌝ }
 {
     let empty = Slot {
         instr: Instr::Empty,
     };
-    let mut code = [empty; 48];
+    [empty; 48]
+}
+
+// The instructions in all slots.
+fn read_code(block: &[u8]) -> [Slot; 48]
+    ensures { λ r. ⌜ r ≡ each 48 (slotAt (now (block .entry))) ⌝ }
+{
+    let mut code = no_code();
     let mut n: usize = 0;
     while n < 48 {
         let s = slot(block, n);
@@ -95,6 +103,7 @@ fn read_words(block: &[u8], at: usize, words: &mut [u16])
     }
 }
 
+// The four bytes from a position on.
 fn read_four(block: &[u8], at: usize) -> [u8; 4]
     requires { ⌜ at < 510 ⌝ }
     ensures { λ r. ⌜ r ≡ each 4 (λ (p : ℕ). byteOf (now (block .entry)) (at + p)) ⌝ }
@@ -131,9 +140,6 @@ pub fn case_of(block: &[u8]) -> Case
 pub fn nothing() -> Case
     ensures { λ r. ⌜ r ≡ nothingOf ⌝ }
 {
-    let empty = Slot {
-        instr: Instr::Empty,
-    };
     Case {
         procs: 1,
         locs: 1,
@@ -142,6 +148,6 @@ pub fn nothing() -> Case
         masks: [0; 4],
         presets: [0; 32],
         memory: [0; 8],
-        code: [empty; 48],
+        code: no_code(),
     }
 }

@@ -9,9 +9,8 @@ ghost use mathlib.Core.List.{_++_};
 ghost use Prim.Native.Nat.{_+_, _*_, _-_, _≤_, _<_};
 ghost use lib.ListN.{length, take, replicate};
 ghost use Rattle.words.specs.Small.{concatMap};
-ghost use Rattle.cases.specs.declared.Slot.{Slot as Held};
 ghost use Rattle.cases.specs.Instruction.{two as twoOf, six as sixOf, localBytes, instrBytes};
-ghost use Rattle.cases.specs.Block.{contents, check as checkOf};
+ghost use Rattle.cases.specs.Block.{slotBytes, contents, check as checkOf};
 ghost use Rattle.cases.specs.Putting.{Put};
 
 // A two-byte number, low byte first.
@@ -21,12 +20,14 @@ fn two(n: u16) -> [u8; 2]
     [(n % 256) as u8, (n / 256) as u8]
 }
 
+// The six bytes of an op, its fields and its constant.
 fn six(op: u8, d: u8, a: u8, b: u8, k: u16) -> [u8; 6]
     ensures { λ r. ⌜ r ≡ sixOf op d a b k ⌝ }
 {
     [op, d, a, b, (k % 256) as u8, (k / 256) as u8]
 }
 
+// The six bytes of a local instruction.
 fn local_bytes(d: u8, e: Expr) -> [u8; 6]
     ensures { λ r. ⌜ r ≡ localBytes d e ⌝ }
 {
@@ -78,6 +79,7 @@ fn put(block: &mut [u8], at: usize, bytes: &[u8])
     }
 }
 
+// Words put at a position, two bytes each.
 fn put_words(block: &mut [u8], at: usize, words: &[u16])
     requires { ⌜ (at + 2 * length (now words) ≤ length (now block)) × (length (now block) ≡ 512) ⌝ }
     ensures { λ _. ⌜ Put (now (block .entry)) at (concatMap twoOf (now (words .entry))) (now (block .exit)) ⌝ }
@@ -90,9 +92,10 @@ fn put_words(block: &mut [u8], at: usize, words: &[u16])
     }
 }
 
+// Instructions put from position 92 on, six bytes each.
 fn put_code(block: &mut [u8], code: [Slot; 48])
     requires { ⌜ length (now block) ≡ 512 ⌝ }
-    ensures { λ _. ⌜ Put (now (block .entry)) 92 (concatMap (λ (s : Held). instrBytes (s .instr)) code) (now (block .exit)) ⌝ }
+    ensures { λ _. ⌜ Put (now (block .entry)) 92 (concatMap slotBytes code) (now (block .exit)) ⌝ }
 {
     let mut n: usize = 0;
     while n < 48 {
@@ -104,10 +107,10 @@ fn put_code(block: &mut [u8], code: [Slot; 48])
     }
 }
 
-// Bytes 0 to 509 of the block that holds a case.
-pub fn fill(case: Case, block: &mut [u8])
+// Bytes 0 to 11 of the block that holds a case.
+fn put_head(case: Case, block: &mut [u8])
     requires { ⌜ length (now block) ≡ 512 ⌝ }
-    ensures { λ _. ⌜ (take 510 (now (block .exit)) ≡ contents case) × (length (now (block .exit)) ≡ 512) ⌝ }
+    ensures { λ _. ⌜ Put (now (block .entry)) 0 (take 12 (contents case)) (now (block .exit)) ⌝ }
 {
     let head = [case.procs, case.locs, case.bound, 0];
     put(block, 0, &head);
@@ -115,6 +118,14 @@ pub fn fill(case: Case, block: &mut [u8])
     put(block, 4, &counts);
     let masks = case.masks;
     put(block, 8, &masks);
+}
+
+// Bytes 0 to 509 of the block that holds a case.
+pub fn fill(case: Case, block: &mut [u8])
+    requires { ⌜ length (now block) ≡ 512 ⌝ }
+    ensures { λ _. ⌜ (take 510 (now (block .exit)) ≡ contents case) × (length (now (block .exit)) ≡ 512) ⌝ }
+{
+    put_head(case, block);
     let presets = case.presets;
     put_words(block, 12, &presets);
     let memory = case.memory;

@@ -1,3 +1,4 @@
+-- Refused and accepted, each from what `refusal` says of the codes.
 use Rattle.cases.proofs.Decoding.{read-refused, read-accepted}
 use borrow.Author.Needs.{needs}
 use Rattle.cases.proofs.read_case.Statement.{statement}

@@ -1,4 +1,5 @@
-use Rattle.cases.proofs.Puts.{no-room, refused, accepted}
+-- The buffer agrees with the contents of the case below 510, so its faults and its check are theirs (`Agree`, `Written`).
+use Rattle.cases.proofs.Written.{no-room, refused, accepted}
 use borrow.Author.Needs.{needs}
 use Rattle.cases.proofs.write_case.Statement.{statement}
 use Rattle.cases.proofs.write_case.Tie as tie

@@ -1,3 +1,4 @@
+-- The sum is that of the bytes passed; it stays small, since each byte adds at most 510 times 255.
 use mathlib.Core.Path.{_≡_, ap, _∙_}
 use Prim.Native.Nat.{ℕ, _*_, _-_, _%_, _≤_}
 use native.Mathlib.Omega.{arith}

@@ -1,4 +1,7 @@
 use Rattle.cases.proofs.Lowest.{bad-3, bad-4, bad-5, bad-6, bad-7, last-code}
+use mathlib.Core.Path.{ap, sym, _∙_}
+use Prim.Native.Nat.{ℕ}
+use Rattle.cases.specs.Faults.{bad}
 use borrow.Author.Needs.{needs}
 use Rattle.cases.proofs.faults.bad.Statement.{statement}
 use Rattle.cases.proofs.faults.bad.Tie as tie
@@ -19,16 +22,16 @@ bad7-requires : tie.Need-bad7-requires
 bad7-requires c κs = search needs
 
 returns : tie.Need-returns
-returns c = let a = c .before .before .before .args in let q = c .before .match .keys1 in cc (bad-3 (a .block .now) (a .i))
+returns c = let a = c .before .before .before .args in let q = c .before .match .keys1 in c .bad3 .ensures ∙ bad-3 (a .block .now) (a .i) ∙ ap (λ (n : ℕ). bad (a .block .now) n (a .i)) (sym q)
 
 returns-2 : tie.Need-returns-2
-returns-2 c = let a = c .before .before .before .args in let q = c .before .match .keys2 in cc (bad-4 (a .block .now) (a .i))
+returns-2 c = let a = c .before .before .before .args in let q = c .before .match .keys2 in c .bad4 .ensures ∙ bad-4 (a .block .now) (a .i) ∙ ap (λ (n : ℕ). bad (a .block .now) n (a .i)) (sym q)
 
 returns-3 : tie.Need-returns-3
-returns-3 c = let a = c .before .before .before .args in let q = c .before .match .keys3 in cc (bad-5 (a .block .now) (a .i))
+returns-3 c = let a = c .before .before .before .args in let q = c .before .match .keys3 in c .bad5 .ensures ∙ bad-5 (a .block .now) (a .i) ∙ ap (λ (n : ℕ). bad (a .block .now) n (a .i)) (sym q)
 
 returns-4 : tie.Need-returns-4
-returns-4 c = let a = c .before .before .before .args in let q = c .before .match .keys4 in cc (bad-6 (a .block .now) (a .i))
+returns-4 c = let a = c .before .before .before .args in let q = c .before .match .keys4 in c .bad6 .ensures ∙ bad-6 (a .block .now) (a .i) ∙ ap (λ (n : ℕ). bad (a .block .now) n (a .i)) (sym q)
 
 returns-5 : tie.Need-returns-5
 returns-5 c =
@@ -36,7 +39,7 @@ returns-5 c =
     let p = c .before .before .before .pre in
     let no = c .before .match .rest in
     let q = last-code (a .code) (p .0) (p .1) (no .0 .0 .0 .1) (no .0 .0 .1) (no .0 .1) (no .1) in
-    cc (bad-7 (a .block .now) (a .i))
+    c .bad7 .ensures ∙ bad-7 (a .block .now) (a .i) ∙ ap (λ (n : ℕ). bad (a .block .now) n (a .i)) (sym q)
 
 pub bad-spec : {M : Type 1} → statement M
 bad-spec =

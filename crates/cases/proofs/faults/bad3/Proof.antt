@@ -17,7 +17,10 @@ marked-requires c κs = search needs
 
 returns : tie.Need-returns
 unfolding bad3
-returns c = cc
+returns c =
+    let n₂ = c .before in
+    let n₁ = n₂ .before in
+    rw (c .marked .ensures, n₂ .number3 .ensures .0, n₁ .number2 .ensures .0, n₁ .before .number .ensures .0)
 
 pub bad3-spec : {M : Type 1} → statement M
 bad3-spec =

@@ -35,7 +35,15 @@ bad-byte-requires c κs = search needs
 
 returns : tie.Need-returns
 unfolding bad6
-returns c = cc
+returns c =
+    let n₂ = c .before in
+    let u = n₂ .before in
+    let p₄ = u .before in
+    let w = p₄ .before in
+    let n₁ = w .before in
+    let p₃ = n₁ .before in
+    let p₂ = p₃ .before in
+    rw (c .bad-byte .ensures, n₂ .number2 .ensures .0, u .used .ensures, p₄ .past4 .ensures, w .within .ensures, n₁ .number .ensures .0, p₃ .past3 .ensures, p₂ .past2 .ensures, p₂ .before .past .ensures)
 
 pub bad6-spec : {M : Type 1} → statement M
 bad6-spec =

@@ -23,7 +23,12 @@ marked-requires c κs = search needs
 
 returns : tie.Need-returns
 unfolding bad7
-returns c = cc
+returns c =
+    let w₂ = c .before in
+    let w₁ = w₂ .before in
+    let u = w₁ .before in
+    let p₂ = u .before in
+    rw (c .marked .ensures, w₂ .within2 .ensures, w₁ .within .ensures, u .used .ensures, p₂ .past2 .ensures, p₂ .before .past .ensures)
 
 pub bad7-spec : {M : Type 1} → statement M
 bad7-spec =

@@ -1,3 +1,4 @@
+-- One computed test over the whole table (`Fields`).
 use Rattle.cases.proofs.Fields.{table-rule, no-field}
 use borrow.Author.Needs.{needs}
 use Rattle.cases.proofs.faults.field.Statement.{statement}

@@ -1,3 +1,4 @@
+-- The codes passed so far have no bad position (`Passed`); the measure is the number of codes that are left.
 use Prim.Native.Nat.{_≤_, _-_}
 use native.Mathlib.Numerals.{add-one}
 use native.Mathlib.Omega.{arith}

@@ -1,3 +1,4 @@
+-- No position passed so far is bad; the measure is the number of positions that are left.
 use mathlib.Core.Path.{_≡_, sym, _∙_}
 use mathlib.Core.Bool.{false}
 use Prim.Native.Nat.{ℕ, _≤_, _<_, _-_}

@@ -44,7 +44,18 @@ no-loc-requires c κs = search needs
 
 returns : tie.Need-returns
 unfolding zero5
-returns c = cc
+returns c =
+    let p₄ = c .before in
+    let w₃ = p₄ .before in
+    let n₂ = w₃ .before in
+    let w₂ = n₂ .before in
+    let n₁ = w₂ .before in
+    let p₃ = n₁ .before in
+    let w₁ = p₃ .before in
+    let h = w₁ .before in
+    let p₂ = h .before in
+    let m = p₂ .before in
+    rw (c .no-loc .ensures, p₄ .past4 .ensures, w₃ .within3 .ensures, n₂ .no-proc2 .ensures, w₂ .within2 .ensures, n₁ .no-proc .ensures, p₃ .past3 .ensures, w₁ .within .ensures, h .has .ensures, p₂ .past2 .ensures, m .number .ensures .0, m .before .past .ensures)
 
 pub zero5-spec : {M : Type 1} → statement M
 zero5-spec =

@@ -1,4 +1,5 @@
-use mathlib.Core.Path.{_≡_, refl}
+-- The slots passed are those of the block.
+use mathlib.Core.Path.{_≡_, ap}
 use Prim.Native.Nat.{ℕ, _-_, _≤_, _<_}
 use native.Mathlib.Omega.{arith}
 use lib.ListN.{length, getD, length-set}
@@ -16,8 +17,11 @@ Inv-loop block code₀ n₀ code n = (n ≤ 48) × (length code ≡ 48) × ((k :
 abbrev μ-loop : tie.MeasureT-loop
 μ-loop block code₀ n₀ code n = 48 - n
 
+no-code-requires : tie.Need-no-code-requires Inv-loop μ-loop
+no-code-requires c κs = search needs
+
 loop-holds : tie.Need-loop-holds Inv-loop μ-loop
-loop-holds c = (search needs, refl, below-none _)
+loop-holds c = (search needs, ap length (c .no-code .ensures), below-none _)
 
 slot-requires : tie.Need-slot-requires Inv-loop μ-loop
 slot-requires c κs = search needs
@@ -37,14 +41,14 @@ loop-less c = search needs
 loop-again : tie.Need-loop-again Inv-loop μ-loop
 loop-again c =
     let at = c .before .before in
-    let s = at .before .before .args .block .now in
+    let s = at .before .before .before .args .block .now in
     let code = at .loop .code in
     (search needs, simp length-set (at .loop .inv .1), filled-more (slotAt s) (record { instr = Empty }) code (at .loop .n) (c .slot .result) (omega arith) (c .slot .ensures) (at .loop .inv .2))
 
 returns : tie.Need-returns Inv-loop μ-loop
 returns c =
     let at = c .before in
-    each-is (slotAt (at .before .before .args .block .now)) (record { instr = Empty }) (at .loop .code) 48 (at .loop .inv .1) (λ k h. at .loop .inv .2 k (omega arith))
+    each-is (slotAt (at .before .before .before .args .block .now)) (record { instr = Empty }) (at .loop .code) 48 (at .loop .inv .1) (λ k h. at .loop .inv .2 k (omega arith))
 
 pub read-code-spec : {M : Type 1} → statement M
 read-code-spec =
@@ -52,6 +56,7 @@ read-code-spec =
     (tie.spec
     Inv-loop
     μ-loop
+    no-code-requires
     loop-holds
     slot-requires
     mul-code

@@ -1,3 +1,6 @@
+use mathlib.Core.Path.{sym, _∙_, ap}
+use mathlib.Core.List.{[], _∷_}
+use Rattle.cases.specs.Block.{byte}
 use native.Mathlib.Nat.{add-zero}
 use borrow.Author.Needs.{needs}
 use Rattle.cases.proofs.reading.read_four.Statement.{statement}
@@ -25,7 +28,12 @@ byte-requires-4 : tie.Need-byte-requires-4
 byte-requires-4 c κs = search needs
 
 returns : tie.Need-returns
-returns c = cc (add-zero (c .before .before .before .before .before .args .at))
+returns c =
+    let b₃ = c .before in
+    let b₂ = b₃ .before in
+    let b₁ = b₂ .before in
+    let a = b₁ .before .before .args in
+    λ t. (b₁ .byte .ensures ∙ ap (byte (a .block .now)) (sym (add-zero (a .at)))) t ∷ b₂ .byte2 .ensures t ∷ b₃ .byte3 .ensures t ∷ c .byte4 .ensures t ∷ []
 
 pub read-four-spec : {M : Type 1} → statement M
 read-four-spec =

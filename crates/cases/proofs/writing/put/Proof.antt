@@ -1,3 +1,4 @@
+-- The front of the buffer is what it was, then the bytes put so far.
 use mathlib.Core.Path.{_≡_, refl}
 use mathlib.Core.List.{_++_}
 use Prim.Native.Nat.{_+_, _-_, _≤_}

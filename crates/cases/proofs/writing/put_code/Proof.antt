@@ -1,3 +1,4 @@
+-- The front of the buffer is what it was, then the slots put so far (`Puts`, parts of six bytes).
 use Rattle.cases.specs.declared.Instr.the-variants.{Empty}
 use mathlib.Core.Path.{_≡_, refl, ap, _∙_, subst}
 use mathlib.Core.List.{List, _++_}
@@ -5,8 +6,9 @@ use Prim.Native.Nat.{ℕ, _+_, _*_, _-_, _≤_}
 use native.Mathlib.Omega.{arith}
 use lib.ListN.{length, getD, take}
 use Rattle.words.specs.Small.{concatMap}
+use Rattle.cases.specs.Block.{slotBytes}
 use Rattle.cases.specs.Putting.{Put}
-use Rattle.cases.proofs.Puts.{slotBytes, six-wide, parts-none, parts-more, parts-all}
+use Rattle.cases.proofs.Puts.{six-wide, parts-none, parts-more, parts-all}
 use borrow.Author.Needs.{needs}
 use Rattle.cases.proofs.writing.put_code.Statement.{statement}
 use Rattle.cases.proofs.writing.put_code.Tie as tie

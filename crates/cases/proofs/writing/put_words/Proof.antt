@@ -1,3 +1,4 @@
+-- The front of the buffer is what it was, then the words put so far (`Puts`, parts of two bytes).
 use mathlib.Core.Path.{_≡_, refl, ap, _∙_, subst}
 use mathlib.Core.List.{List, _++_}
 use Prim.Native.Nat.{ℕ, _+_, _*_, _-_, _≤_}
