@@ -52,7 +52,7 @@ new-entry-requires c κs =
     let b = c .before .before .before .before .before .before .before in
     let a = b .args in
     let v = b .pre .0 in
-    (v .issued, v .acts-long, v .names-long, issue-low (a .t1) (a .t2) (a .p) v (b .pre .1), subst (λ (n : ℕ). Fine (instrAt (a .t1) (a .p) n)) (sym (c .before .before .before .before .wide .ensures .0)) (issue-fine (a .t1) (a .t2) (a .p) v (b .pre .1)))
+    (v .issued, v .acts-long, search needs, issue-low (a .t1) (a .t2) (a .p) v (b .pre .1), subst (λ (n : ℕ). Fine (instrAt (a .t1) (a .p) n)) (sym (c .before .before .before .before .wide .ensures .0)) (issue-fine (a .t1) (a .t2) (a .p) v (b .pre .1)))
 
 enter-requires : tie.Need-enter-requires
 enter-requires c κs =
