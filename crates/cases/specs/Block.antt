@@ -1,6 +1,6 @@
 -- The case block: which bytes are bad for which code, the case it holds, the block that holds a case. Assumes nothing.
 use mathlib.Core.Path.{_≡_}
-use mathlib.Core.Bool.{Bool, true, false, _&&_, _||_, not, cond}
+use mathlib.Core.Bool.{Bool, _&&_, _||_, not, cond}
 use mathlib.Core.List.{List, [], _∷_, _++_}
 use Prim.Native.Nat.{ℕ, zero, suc, _+_, _*_, _-_, _/_, _%_}
 use lib.Dec.{eqb, ltb, leb}
@@ -12,7 +12,7 @@ use Rattle.cases.specs.declared.Slot.{Slot}
 use Rattle.cases.specs.declared.Case.{Case}
 use Rattle.cases.specs.declared.CaseRead.{CaseRead}
 use Rattle.cases.specs.declared.Instr.the-variants.{Empty}
-use Rattle.cases.specs.Instruction.{Field, zeroed, fields, badField, instrOf, instrBytes, two}
+use Rattle.cases.specs.Instruction.{fieldAt, badField, instrOf, instrBytes, two}
 
 -- Position i is one of from, from + 1, .., to - 1.
 abbrev pub within : ℕ → ℕ → ℕ → Bool
@@ -91,7 +91,7 @@ module _ (s : List ℕ) where
   unfoldable pub badByte : ℕ → ℕ → ℕ → Bool
   badByte op n i =
       cond (eqb (byteAt i) 0) (eqb op 0 || ltb 10 op)
-      (badField (getD (getD fields op []) (byteAt i - 1) zeroed) n (byte i) (word i))
+      (badField (fieldAt op (byteAt i - 1)) n (byte i) (word i))
 
   -- Code 6: a used instruction with a bad op, register, label or unused field.
   unfoldable pub bad6 : ℕ → Bool

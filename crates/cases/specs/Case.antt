@@ -1,6 +1,5 @@
 -- The fields of a case, by processor and number. Assumes nothing.
-use mathlib.Core.Path.{_≡_}
-use mathlib.Core.Bool.{Bool, cond}
+use mathlib.Core.Bool.{cond}
 use mathlib.Core.Option.{Option, none, some}
 use Prim.Native.Nat.{ℕ, _+_, _*_}
 use lib.ListN.{getD}
@@ -13,9 +12,13 @@ use Rattle.cases.specs.declared.Case.{Case}
 abbrev pub countOf : Case → ℕ → ℕ
 countOf c p = getD (c .counts) p 0
 
+-- The instruction in slot n, the empty one past the last.
+abbrev pub slotIn : Case → ℕ → Instr
+slotIn c n = getD (c .code) n (record { instr = Empty }) .instr
+
 -- Instruction i of processor p.
 abbrev pub instrAt : Case → ℕ → ℕ → Instr
-instrAt c p i = getD (c .code) (12 * p + i) (record { instr = Empty }) .instr
+instrAt c p i = slotIn c (12 * p + i)
 
 -- What register k of processor p starts with: its preset where bit k of the mask is set.
 abbrev pub presetOf : Case → ℕ → ℕ → Option ℕ

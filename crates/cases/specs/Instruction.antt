@@ -1,7 +1,7 @@
 -- An instruction's six bytes: op, d, a, b, then a two-byte constant. Assumes nothing.
-use mathlib.Core.Bool.{Bool, true, false, _&&_, _||_, not}
+use mathlib.Core.Bool.{Bool, false, not}
 use mathlib.Core.List.{List, [], _∷_}
-use Prim.Native.Nat.{ℕ, _+_, _*_, _-_, _/_, _%_}
+use Prim.Native.Nat.{ℕ, zero, suc, _/_, _%_}
 use lib.Dec.{eqb, ltb, leb}
 use lib.ListN.{getD}
 use Rattle.cases.specs.declared.Instr.{Instr}
@@ -28,6 +28,17 @@ fields =
     ∷ (zeroed ∷ register ∷ zeroed ∷ zeroed ∷ zeroed ∷ [])
     ∷ (zeroed ∷ register ∷ zeroed ∷ zeroed ∷ zeroed ∷ [])
     ∷ []
+
+-- What byte k after this op may be; all zero after a bad op.
+abbrev pub fieldAt : ℕ → ℕ → Field
+fieldAt op k = getD (getD fields op []) k zeroed
+
+-- The number that stands for each field in a table.
+abbrev pub fieldOf : ℕ → Field
+fieldOf zero = zeroed
+fieldOf (suc zero) = register
+fieldOf (suc (suc zero)) = free
+fieldOf (suc (suc (suc n))) = label
 
 -- The byte v is bad there; the label is w, of a processor with n instructions.
 abbrev pub badField : Field → ℕ → ℕ → ℕ → Bool

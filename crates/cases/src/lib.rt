@@ -1,4 +1,12 @@
-// A case: the programs of its processors, what their registers and the memory start with.
+// A case: the programs of its processors, what their registers and the memory start with; and the block of 512 bytes that holds it.
+mod bytes;
+mod faults;
+mod reading;
+mod writing;
+
+ghost use mathlib.Core.Path.{_≡_};
+ghost use lib.ListN.{length};
+ghost use Rattle.cases.specs.Block.{readOf, writeCode, written};
 
 // What a local instruction computes.
 pub enum Expr {
@@ -40,4 +48,46 @@ pub struct Case {
 pub struct CaseRead {
     pub code: u8,
     pub case: Case,
+}
+
+// The first of codes 3 to 7 that a block gets and the lowest position that is bad for it; 0 and 510 where it gets none.
+pub struct Fault {
+    pub code: u8,
+    pub at: usize,
+}
+
+// Reads the case that a block holds. A refused block gives the refused case.
+pub fn read_case(block: &[u8]) -> CaseRead
+    ensures { λ r. ⌜ r ≡ readOf (now (block .entry)) ⌝ }
+{
+    let code = reading::refusal(block);
+    if code != 0 {
+        return CaseRead {
+            code,
+            case: reading::nothing(),
+        };
+    }
+    CaseRead {
+        code: 0,
+        case: reading::case_of(block),
+    }
+}
+
+// Writes the block that holds a case. Refused, the buffer is all zeros.
+pub fn write_case(case: Case, block: &mut [u8]) -> u8
+    ensures { λ r. ⌜ (r ≡ writeCode case (length (now (block .entry)))) × (now (block .exit) ≡ written case (length (now (block .entry)))) ⌝ }
+{
+    if block.len() != 512 {
+        writing::clear(block, 0);
+        return 1;
+    }
+    writing::fill(case, block);
+    let fault = faults::judge(block);
+    let code = fault.code;
+    if code != 0 {
+        writing::clear(block, 0);
+        return code;
+    }
+    writing::sign(block);
+    0
 }

@@ -4,3 +4,4 @@ pub mod Stores
 pub mod Listing
 pub mod Answers
 pub mod Starting
+pub mod Fits

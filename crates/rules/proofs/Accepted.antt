@@ -1,24 +1,23 @@
 -- An accepted step, test by test; a finished state takes none. Assumes nothing.
 use mathlib.Core.Path.{_≡_, refl, sym, _∙_, ap, subst}
-use mathlib.Core.Logic.{_⊎_, inl, inr, ⊎-elim}
-use mathlib.Core.Bool.{Bool, true, false, not, cond, _&&_, _||_, false≢true}
-use mathlib.Core.List.{List, [], _∷_, List·Memᴰ, List·Memᴰ·head, List·Memᴰ·tail}
+use mathlib.Core.Logic.{_⊎_, ⊎-elim}
+use mathlib.Core.Bool.{Bool, true, false, not, _&&_, false≢true}
+use mathlib.Core.List.{_∷_, List·Memᴰ, List·Memᴰ·head, List·Memᴰ·tail}
 use mathlib.Core.Option.{Option, none, some}
 use Prim.Native.Nat.{ℕ, zero, suc, _+_, _≤_, _<_}
 use native.Mathlib.Omega.{arith}
 use lib.Dec.{eqb, ltb, leb}
-use lib.ListN.{length, getD}
-use borrow.Author.Tests.{ltb-true, lt-ltb, leb-true, leb-false, lt-leb, eqb-true, eqb-false, not-true, not-false}
-use Rattle.words.specs.Small.{isNone, orZero, is, any, all, counting, someBelow}
-use Rattle.words.specs.Refusals.{Refusal, _when_, firstOf}
+use borrow.Author.Tests.{ltb-true, lt-ltb, leb-false, lt-leb, eqb-true, eqb-false, not-true, not-false}
+use Rattle.words.specs.Small.{isNone, orZero, is, any, counting, someBelow}
+use Rattle.words.specs.Refusals.{_when_}
 use Rattle.words.proofs.Bools.{decide, and-both, and-make, all-at, below-make}
 use Rattle.words.proofs.Passed.{Passed, passed, unpassed}
 use Rattle.cases.specs.declared.Case.{Case}
 use Rattle.cases.specs.Case.{countOf}
-use Rattle.rules.specs.Kinds.{kind, reading, accesses, syncs, heldBy}
-use Rattle.rules.specs.State.{State, Action, kindOf, waiting, valueOf, itemValue}
+use Rattle.rules.specs.Kinds.{kind, reading, accesses, syncs}
+use Rattle.rules.specs.State.{State, kindOf, waiting, valueOf, itemValue}
 use Rattle.rules.specs.Issue.{here, next, address, issueRefusals, issued}
-use Rattle.rules.specs.Commit.{writes, visible, barred, self, input, heldBack, commitRefusals, committed}
+use Rattle.rules.specs.Commit.{writes, visible, barred, input, heldBack, commitRefusals, committed}
 use Rattle.rules.specs.Step.{Step, issue, commit, neither, stepCode, after}
 use Rattle.rules.specs.Result.{finished}
 

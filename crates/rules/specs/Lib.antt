@@ -6,3 +6,8 @@ pub mod Commit
 pub mod Step
 pub mod Result
 pub mod Womm
+pub mod Building
+pub mod Claims
+pub mod Shapes
+pub mod Readings
+pub mod Codes

@@ -1,1 +1,9 @@
 pub mod Walk
+pub mod Told
+pub mod Always
+pub mod ByteOrder
+pub mod Unique
+pub mod Stable
+pub mod Search
+pub mod Sorted
+pub mod Exists

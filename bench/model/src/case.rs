@@ -1,0 +1,116 @@
+use crate::{block, Instr, Refusal, INSTRUCTIONS, LOCATIONS, PROCESSORS, REGISTERS, STEPS};
+
+/// One processor of a case: what its registers start with, and its instructions.
+#[derive(Clone, Debug, Default, PartialEq, Eq)]
+pub struct Processor {
+    pub presets: [Option<u16>; REGISTERS],
+    pub program: Vec<Instr>,
+}
+
+/// A sound case: made by a builder, or read from a block.
+#[derive(Clone, Debug, PartialEq, Eq)]
+pub struct Case {
+    pub(crate) processors: Vec<Processor>,
+    pub(crate) locations: u8,
+    pub(crate) usual_bound: u8,
+    pub(crate) memory: [u16; LOCATIONS],
+}
+
+impl Case {
+    /// Begins a case with as many processors and locations, nothing preset, memory at 0.
+    pub fn builder(processors: u8, locations: u8) -> CaseBuilder {
+        CaseBuilder {
+            case: Case {
+                processors: vec![Processor::default(); processors.into()],
+                locations,
+                usual_bound: 0,
+                memory: [0; LOCATIONS],
+            },
+            refused: None,
+        }
+    }
+
+    pub fn processors(&self) -> &[Processor] {
+        &self.processors
+    }
+
+    pub fn locations(&self) -> u8 {
+        self.locations
+    }
+
+    pub fn usual_bound(&self) -> u8 {
+        self.usual_bound
+    }
+
+    /// The word that a location starts with.
+    pub fn memory(&self, location: u8) -> u16 {
+        self.memory[usize::from(location)]
+    }
+
+    /// The 512 bytes of document 01.
+    pub fn block(&self) -> [u8; block::LENGTH] {
+        block::write(self)
+    }
+}
+
+/// Gathers a case; `build` gives the first refusal that the case as a record deserves.
+#[derive(Clone, Debug)]
+pub struct CaseBuilder {
+    case: Case,
+    refused: Option<Refusal>,
+}
+
+impl CaseBuilder {
+    /// Register k of processor p starts with a value.
+    pub fn preset(mut self, p: usize, k: usize, value: u16) -> Self {
+        match self.case.processors.get_mut(p).and_then(|held| held.presets.get_mut(k)) {
+            Some(place) => *place = Some(value),
+            None => self.refuse(Refusal::NotZero),
+        }
+        self
+    }
+
+    /// A location starts with a value.
+    pub fn memory(mut self, location: usize, value: u16) -> Self {
+        if location < self.case.locations.into() && location < LOCATIONS {
+            self.case.memory[location] = value;
+        } else {
+            self.refuse(Refusal::NotZero);
+        }
+        self
+    }
+
+    /// Adds instructions at the end of processor p's program.
+    pub fn program(mut self, p: usize, instrs: &[Instr]) -> Self {
+        match self.case.processors.get_mut(p) {
+            Some(held) => held.program.extend(instrs),
+            None => self.refuse(Refusal::Counts),
+        }
+        self
+    }
+
+    /// The bound that `outcomes` takes when given 255.
+    pub fn usual_bound(mut self, bound: u8) -> Self {
+        self.case.usual_bound = bound;
+        self
+    }
+
+    pub fn build(mut self) -> Result<Case, Refusal> {
+        let processors = (1..=PROCESSORS).contains(&self.case.processors.len());
+        let locations = (1..=LOCATIONS).contains(&self.case.locations.into());
+        if !processors || !locations || usize::from(self.case.usual_bound) > STEPS {
+            self.refuse(Refusal::Sizes);
+        }
+        if self.case.processors.iter().any(|held| held.program.len() > INSTRUCTIONS) {
+            self.refuse(Refusal::Counts);
+        }
+        match self.refused {
+            Some(refusal) => Err(refusal),
+            None => block::read(&self.case.block()),
+        }
+    }
+
+    fn refuse(&mut self, refusal: Refusal) {
+        self.refused = Some(self.refused.map_or(refusal, |before| before.min(refusal)));
+    }
+}

@@ -1,0 +1,25 @@
+//! Cases, schedules, outcomes and refusals of document 01 as plain types, and the bytes they stand for.
+#![forbid(unsafe_code)]
+
+pub mod block;
+mod case;
+mod instr;
+mod listers;
+mod outcome;
+mod refusal;
+mod schedule;
+
+pub use case::{Case, CaseBuilder, Processor};
+pub use instr::{ops, Instr};
+pub use listers::{Listed, Lister, Replayed, Replayer};
+pub use outcome::{Ending, Outcome, ENDING, RECORD};
+pub use refusal::Refusal;
+pub use schedule::{schedule, Step};
+
+/// The sizes of document 01.
+pub const PROCESSORS: usize = 4;
+pub const LOCATIONS: usize = 8;
+pub const REGISTERS: usize = 8;
+pub const INSTRUCTIONS: usize = 12;
+pub const ACTIONS: usize = 48;
+pub const STEPS: usize = 96;

@@ -1,0 +1,106 @@
+//! A plain depth-first search: the machine is cloned at each fork, every accepted step is tried, and
+//! the outcomes gather in an ordered set. The baseline for times.
+#![forbid(unsafe_code)]
+
+mod machine;
+
+pub use machine::Machine;
+
+use std::collections::BTreeSet;
+
+use model::{block, Case, Listed, Lister, Outcome, Refusal, Replayed, Replayer, Step, ENDING, RECORD, STEPS};
+
+/// All outcomes within a bound.
+#[derive(Clone, Debug, Default)]
+pub struct Listing {
+    pub outcomes: BTreeSet<Outcome>,
+    pub cut: bool,
+    /// Machines visited.
+    pub nodes: u64,
+}
+
+/// Lists the outcomes of a case.
+pub fn list(case: &Case, bound: u8) -> Listing {
+    let mut listing = Listing::default();
+    explore(&Machine::new(case), bound, &mut listing);
+    listing
+}
+
+fn explore(machine: &Machine, left: u8, listing: &mut Listing) {
+    listing.nodes += 1;
+    if machine.finished() {
+        listing.outcomes.insert(machine.outcome());
+    } else if left == 0 {
+        listing.cut = true;
+    } else {
+        for step in machine.steps() {
+            let mut next = machine.clone();
+            next.take(step);
+            explore(&next, left - 1, listing);
+        }
+    }
+}
+
+/// The search behind the bytes that the library takes.
+pub struct Plain;
+
+impl Lister for Plain {
+    fn outcomes(&self, block: &[u8], bound: u32, records: &mut [u8]) -> Listed {
+        records.fill(0);
+        let refused = |refusal: Refusal| Listed { code: refusal.code(), count: 0, cut: false };
+        let case = match block::read(block) {
+            Ok(case) => case,
+            Err(refusal) => return refused(refusal),
+        };
+        if bound > STEPS as u32 {
+            return refused(Refusal::Bound);
+        }
+        let listing = list(&case, bound as u8);
+        if listing.outcomes.len() * RECORD > records.len() {
+            return refused(Refusal::Room);
+        }
+        for (i, outcome) in listing.outcomes.iter().enumerate() {
+            records[i * RECORD..(i + 1) * RECORD].copy_from_slice(&outcome.bytes());
+        }
+        Listed { code: 0, count: listing.outcomes.len() as u32, cut: listing.cut }
+    }
+}
+
+impl Replayer for Plain {
+    fn replay(&self, block: &[u8], schedule: &[u8], result: &mut [u8]) -> Replayed {
+        result.fill(0);
+        let refused = |refusal: Refusal| Replayed { code: refusal.code(), steps: 0 };
+        let case = match block::read(block) {
+            Ok(case) => case,
+            Err(refusal) => return refused(refusal),
+        };
+        if !schedule.len().is_multiple_of(4) || schedule.len() / 4 > STEPS {
+            return refused(Refusal::ScheduleLength);
+        }
+        if result.len() != ENDING {
+            return refused(Refusal::ResultLength);
+        }
+        let mut machine = Machine::new(&case);
+        let (code, steps) = run(&mut machine, schedule);
+        result.copy_from_slice(&machine.ending().bytes());
+        Replayed { code, steps }
+    }
+}
+
+/// Takes steps up to the first refused one; its code and the number of steps before it.
+fn run(machine: &mut Machine, schedule: &[u8]) -> (u32, u32) {
+    let mut steps = 0;
+    for bytes in schedule.chunks(4) {
+        let step = match *bytes {
+            [0, processor, 0, 0] => Step::Issue { processor },
+            [1, processor, action, source] => Step::Commit { processor, action, source },
+            _ => return (Refusal::BadStep.code(), steps),
+        };
+        if let Err(refusal) = machine.check(step) {
+            return (refusal.code(), steps);
+        }
+        machine.take(step);
+        steps += 1;
+    }
+    (0, steps)
+}

@@ -1,0 +1,164 @@
+//! Random sound cases.
+
+use model::ops::*;
+use model::{Case, CaseBuilder, Instr};
+
+use crate::Rng;
+
+/// The registers that hold addresses and values from the start, and those that instructions assign.
+const GIVEN: [u8; 5] = [0, 0, 1, 1, 4];
+const ASSIGNED: [u8; 4] = [2, 3, 5, 6];
+const VALUES: [u16; 8] = [0, 1, 2, 3, 7, 255, 256, 65_535];
+
+/// A case for listing: few instructions, mostly races.
+pub fn to_list(rng: &mut Rng) -> Case {
+    if rng.once_in(12) {
+        return two_sections(rng);
+    }
+    let processors = rng.pick(&[1, 2, 2, 2, 2, 3]);
+    let locations = rng.pick(&[1, 2, 2, 3]);
+    let mut case = started(rng, processors, locations);
+    for p in 0..processors {
+        let count = rng.pick(&[1, 2, 2, 3]);
+        let mut program = program(rng, count, 12);
+        for instr in &mut program {
+            if rng.once_in(2) {
+                *instr = racing(rng);
+            }
+        }
+        case = case.preset(p, 7, p as u16 + 5).program(p, &program);
+    }
+    case.build().expect("a sound case")
+}
+
+/// A critical section on each of two processors.
+fn two_sections(rng: &mut Rng) -> Case {
+    let mut case = started(rng, 2, 2);
+    for p in 0..2 {
+        case = case.preset(p, 7, p as u16 + 5).program(p, &section(rng, 0));
+    }
+    case.build().expect("a sound case")
+}
+
+/// A read or write of one of two locations; register 7 holds a value of the processor's own.
+fn racing(rng: &mut Rng) -> Instr {
+    let address = rng.pick(&[0, 0, 1]);
+    if rng.once_in(2) {
+        read(rng.pick(&ASSIGNED), address)
+    } else {
+        write(address, 7)
+    }
+}
+
+/// A case for replaying: long programs, loops and locks.
+pub fn to_replay(rng: &mut Rng) -> Case {
+    if rng.once_in(3) {
+        return locked(rng);
+    }
+    let processors = 1 + rng.below(4);
+    let locations = rng.pick(&[1, 2, 2, 3, 8]);
+    let mut case = started(rng, processors, locations);
+    for p in 0..processors {
+        let count = 4 + rng.below(9);
+        let back = rng.pick(&[2, 6, 100]);
+        let mut program = program(rng, count, back);
+        if rng.once_in(2) {
+            program[count - 1] = goto(rng.below(count) as u16);
+        }
+        case = case.program(p, &program);
+    }
+    case.build().expect("a sound case")
+}
+
+/// A case of critical sections around races, over and over: here the orders grow across processors.
+fn locked(rng: &mut Rng) -> Case {
+    let processors = 2 + rng.below(2);
+    let locations = rng.pick(&[1, 2, 2]);
+    let mut case = started(rng, processors, locations);
+    for p in 0..processors {
+        let mut program = vec![];
+        while program.len() < 6 {
+            program.extend(section(rng, program.len() as u16));
+        }
+        program.push(goto(0));
+        case = case.preset(p, 7, p as u16 + 5).program(p, &program);
+    }
+    case.build().expect("a sound case")
+}
+
+/// An acquire, one to three instructions and a release, with now and then a second acquire.
+fn section(rng: &mut Rng, from: u16) -> Vec<Instr> {
+    let lock = rng.pick(&[0, 0, 0, 1]);
+    let mut section = vec![acquire(lock)];
+    for _ in 0..1 + rng.below(3) {
+        let next = from + section.len() as u16 + 1;
+        section.push(match rng.below(10) {
+            0 | 1 => goto(next),
+            2 => branch(rng.pick(&GIVEN), next),
+            3 => acquire(lock),
+            4 => set(rng.pick(&ASSIGNED), next),
+            _ => racing(rng),
+        });
+    }
+    section.push(release(lock));
+    section
+}
+
+/// Presets and memory. Register 4 is now and then no location's number.
+fn started(rng: &mut Rng, processors: usize, locations: u8) -> CaseBuilder {
+    let mut case = Case::builder(processors as u8, locations).usual_bound(rng.below(97) as u8);
+    for p in 0..processors {
+        case = case.preset(p, 0, 0).preset(p, 1, 1.min(u16::from(locations) - 1));
+        let last = u16::from(locations) + u16::from(rng.once_in(5));
+        case = case.preset(p, 4, rng.below(last.into()) as u16);
+        for k in [2, 3, 5, 6, 7] {
+            if rng.once_in(3) {
+                case = case.preset(p, k, rng.pick(&VALUES));
+            }
+        }
+    }
+    for location in 0..locations {
+        if rng.once_in(3) {
+            case = case.memory(location.into(), rng.pick(&VALUES));
+        }
+    }
+    case
+}
+
+/// `count` instructions; a jump goes back once in `back` times.
+fn program(rng: &mut Rng, count: usize, back: usize) -> Vec<Instr> {
+    let mut defined = GIVEN.to_vec();
+    let mut program = vec![];
+    for place in 0..count {
+        let to = if rng.once_in(back) { rng.below(count) } else { place + 1 + rng.below(count - place) };
+        let instr = instr(rng, &defined, to as u16);
+        defined.extend(instr.output());
+        program.push(instr);
+    }
+    if count >= 3 && rng.once_in(4) {
+        let lock = rng.pick(&GIVEN);
+        program[0] = acquire(lock);
+        program[count - 1] = release(lock);
+    }
+    program
+}
+
+/// An instruction that mostly reads registers already defined, as otherwise runs soon get stuck.
+fn instr(rng: &mut Rng, defined: &[u8], to: u16) -> Instr {
+    let any = rng.below(8) as u8;
+    let address = if rng.once_in(8) { rng.pick(defined) } else { rng.pick(&GIVEN) };
+    let value = if rng.once_in(16) { any } else { rng.pick(defined) };
+    let (d, other) = (rng.pick(&ASSIGNED), rng.pick(defined));
+    match rng.below(40) {
+        0..=13 => read(d, address),
+        14..=26 => write(rng.pick(&[address, address, address, any]), value),
+        27..=28 => set(d, rng.pick(&VALUES)),
+        29..=30 => add(d, value, other),
+        31..=32 => sub(d, value, other),
+        33..=34 => equal(d, value, other),
+        35..=36 => branch(rng.pick(&[value, other]), to),
+        37 => goto(to),
+        38 => acquire(rng.pick(&[address, any])),
+        _ => release(address),
+    }
+}

@@ -1,0 +1,160 @@
+//! Random inputs of the two calls: block, schedule or bound, and a buffer's length.
+
+use model::{block, schedule, Case, Step, ENDING, RECORD};
+use states::Run;
+
+use crate::{cases, Rng, Tally};
+
+/// What a listing is handed.
+#[derive(Clone, Debug)]
+pub struct ListInput {
+    pub block: Vec<u8>,
+    pub bound: u32,
+    pub room: usize,
+}
+
+/// What a replay is handed.
+#[derive(Clone, Debug)]
+pub struct ReplayInput {
+    pub block: Vec<u8>,
+    pub schedule: Vec<u8>,
+    pub room: usize,
+}
+
+/// A source of inputs, the same for the same seed.
+pub struct Inputs {
+    rng: Rng,
+}
+
+impl Inputs {
+    pub fn new(seed: u64) -> Inputs {
+        Inputs { rng: Rng::new(seed) }
+    }
+
+    /// A listing of at most so many schedules.
+    pub fn to_list(&mut self, most: u128) -> ListInput {
+        loop {
+            let case = cases::to_list(&mut self.rng);
+            let bound = self.bound(&case);
+            let listing = states::list(&case, bound);
+            if listing.schedules <= most && (listing.outcomes.len() >= 2 || self.rng.once_in(8)) {
+                let room = self.records_room(listing.outcomes.len());
+                return self.spoilt_list(ListInput { block: case.block().to_vec(), bound: bound.into(), room });
+            }
+        }
+    }
+
+    /// Mostly the steps of one pass over every program, else a little less or more.
+    fn bound(&mut self, case: &Case) -> u8 {
+        let instructions: usize = case.processors().iter().map(|processor| processor.program.len()).sum();
+        let more = self.rng.pick(&[0, 0, 0, 0, 1, 2]);
+        let fewer = if self.rng.once_in(5) { self.rng.below(2 * instructions + 1) } else { 0 };
+        (2 * instructions + more - fewer) as u8
+    }
+
+    fn records_room(&mut self, count: usize) -> usize {
+        let enough = count * RECORD;
+        match self.rng.below(12) {
+            0 => enough.saturating_sub(1 + self.rng.below(RECORD)),
+            1 => enough,
+            2 => self.rng.below(4 * RECORD),
+            _ => enough + self.rng.below(3 * RECORD),
+        }
+    }
+
+    fn spoilt_list(&mut self, mut input: ListInput) -> ListInput {
+        if self.rng.once_in(8) {
+            input.block = self.spoilt_block(&input.block);
+        }
+        if self.rng.once_in(24) {
+            input.bound = self.rng.pick(&[97, 100, 255, 256, 264, 65_544, u32::MAX]);
+        }
+        input
+    }
+
+    /// A replay; of the refused steps tried at its end, one whose code the tally has seen least.
+    pub fn to_replay(&mut self, tally: &Tally) -> ReplayInput {
+        let case = cases::to_replay(&mut self.rng);
+        let mut run = Run::new(&case);
+        let mut steps = self.walk(&mut run);
+        if steps.len() < 92 && !self.rng.once_in(4) {
+            let least = self.refused_steps(&case, &run).into_iter().min_by_key(|(code, _)| tally.replays(*code));
+            steps.extend(least.map(|(_, step)| step));
+            for _ in 0..self.rng.below(4) {
+                steps.push(self.any_step(&case, &run));
+            }
+        }
+        self.spoilt_replay(ReplayInput { block: case.block().to_vec(), schedule: steps.concat(), room: ENDING })
+    }
+
+    /// Takes accepted steps up to a random number or until there are none.
+    fn walk(&mut self, run: &mut Run) -> Vec<[u8; 4]> {
+        let most = if self.rng.once_in(5) { self.rng.below(20) } else { 20 + self.rng.below(77) };
+        let eager = self.rng.below(4);
+        let mut steps = vec![];
+        while steps.len() < most {
+            let accepted = run.accepted();
+            let issues: Vec<Step> = accepted.iter().copied().filter(|step| matches!(step, Step::Issue { .. })).collect();
+            let choice = if self.rng.below(4) < eager && !issues.is_empty() { issues } else { accepted };
+            if choice.is_empty() {
+                break;
+            }
+            let step = self.rng.pick(&choice).bytes();
+            run.take(step).expect("an accepted step");
+            steps.push(step);
+        }
+        steps
+    }
+
+    /// Some steps that are refused now, with their codes: any steps, and accepted ones with another source.
+    fn refused_steps(&mut self, case: &Case, run: &Run) -> Vec<(u32, [u8; 4])> {
+        let mut tried: Vec<[u8; 4]> = (0..60).map(|_| self.any_step(case, run)).collect();
+        for step in run.accepted() {
+            let [kind, processor, action, _] = step.bytes();
+            tried.push([kind, processor, action, self.rng.below(run.actions() + 9) as u8]);
+        }
+        tried.into_iter().filter_map(|step| run.clone().take(step).err().map(|refusal| (refusal.code(), step))).collect()
+    }
+
+    /// Any step whose numbers are near those in use.
+    fn any_step(&mut self, case: &Case, run: &Run) -> [u8; 4] {
+        let processor = self.rng.below(case.processors().len()) as u8;
+        match self.rng.below(12) {
+            0 => [self.rng.byte(), self.rng.byte(), self.rng.byte(), self.rng.byte()],
+            1..=3 => [0, processor, 0, 0],
+            4 => [self.rng.below(3) as u8, self.rng.below(6) as u8, self.rng.below(2) as u8, self.rng.below(2) as u8],
+            5..=8 => [1, processor, self.rng.below(run.actions() + 1) as u8, 0],
+            _ => [1, processor, self.rng.below(run.actions() + 1) as u8, self.rng.below(run.actions() + 10) as u8],
+        }
+    }
+
+    fn spoilt_replay(&mut self, mut input: ReplayInput) -> ReplayInput {
+        match self.rng.below(48) {
+            0 => input.block = self.spoilt_block(&input.block),
+            1 => input.schedule.push(self.rng.byte()),
+            2 => input.schedule.extend(schedule(&[Step::Issue { processor: 0 }; 97])),
+            3 => input.room = self.rng.pick(&[0, 1, 103, 105, 208]),
+            _ => (),
+        }
+        input
+    }
+
+    /// A block with one byte changed, or of another length.
+    fn spoilt_block(&mut self, sound: &[u8]) -> Vec<u8> {
+        let mut bytes: [u8; block::LENGTH] = sound.try_into().expect("a block");
+        let at = match self.rng.below(7) {
+            0 => return [sound, &[0]].concat()[..self.rng.pick(&[0, 1, 511, 513])].to_vec(),
+            1 => self.rng.below(512),
+            2 => self.rng.below(4),
+            3 => 4 + self.rng.below(4),
+            4 => 8 + self.rng.below(84),
+            5 => 92 + 72 * self.rng.below(bytes[0].into()) + self.rng.below(12),
+            _ => 104 + self.rng.below(406),
+        };
+        bytes[at] = if self.rng.once_in(2) { self.rng.byte() } else { bytes[at] ^ 1 };
+        if !self.rng.once_in(8) {
+            block::seal(&mut bytes);
+        }
+        bytes.to_vec()
+    }
+}

@@ -1,0 +1,13 @@
+//! Random inputs from a fixed seed, made to go deep, and a comparison of two implementations on them.
+#![forbid(unsafe_code)]
+
+mod cases;
+mod compare;
+mod inputs;
+mod rng;
+mod tally;
+
+pub use compare::{compare, run, Both, Mismatch, Plan};
+pub use inputs::{Inputs, ListInput, ReplayInput};
+pub use rng::Rng;
+pub use tally::Tally;

@@ -1,0 +1,68 @@
+//! Litmus shapes as data: cases, bounds, and what is known of their outcomes or of one schedule's end.
+//!
+//! Unless said, memory starts at 0, registers 0 and 1 of each processor are preset to 0 and 1, and
+//! another address or value stands in register 4. Location x is 0, y is 1, z is 2.
+#![forbid(unsafe_code)]
+
+mod lists;
+mod runs;
+mod stored;
+mod times;
+
+pub use lists::lists;
+pub use runs::runs;
+pub use stored::{outcomes_prints, replay_prints, stored};
+pub use times::print_times;
+
+use std::collections::BTreeSet;
+
+use model::{Case, CaseBuilder, Instr, Outcome};
+
+/// A register of a processor.
+pub type Register = (usize, usize);
+
+/// A case whose outcomes are listed.
+#[derive(Clone, Debug)]
+pub struct Shape {
+    pub name: &'static str,
+    pub case: Case,
+    pub bound: u8,
+    pub cut: bool,
+    /// The registers that tell outcomes apart.
+    pub watched: Vec<Register>,
+    /// Their values in each outcome.
+    pub results: BTreeSet<Vec<u16>>,
+}
+
+impl Shape {
+    /// The values of the watched registers.
+    pub fn seen(&self, outcome: &Outcome) -> Vec<Option<u16>> {
+        self.watched.iter().map(|&(p, k)| outcome.registers[p][k]).collect()
+    }
+
+    /// Whether these are the outcomes expected.
+    pub fn expects(&self, outcomes: &BTreeSet<Outcome>) -> bool {
+        let seen: BTreeSet<_> = outcomes.iter().map(|outcome| self.seen(outcome)).collect();
+        let expected: BTreeSet<_> = self.results.iter().map(|row| row.iter().copied().map(Some).collect()).collect();
+        seen == expected && outcomes.len() == seen.len()
+    }
+}
+
+/// A schedule with the code and steps of its replay.
+#[derive(Clone, Debug)]
+pub struct Run {
+    pub name: &'static str,
+    pub block: Vec<u8>,
+    pub schedule: Vec<u8>,
+    pub code: u32,
+    pub steps: u32,
+}
+
+/// As many processors as programs, with the usual presets.
+pub fn usual(locations: u8, programs: &[&[Instr]]) -> CaseBuilder {
+    let mut builder = Case::builder(programs.len() as u8, locations);
+    for (p, program) in programs.iter().enumerate() {
+        builder = builder.preset(p, 0, 0).preset(p, 1, 1).program(p, program);
+    }
+    builder
+}

@@ -1,0 +1,145 @@
+//! Shapes of one schedule.
+
+use model::ops::*;
+use model::{block, schedule, CaseBuilder, Instr, Outcome, Step};
+
+use crate::lists::{figure_2, figure_8};
+use crate::{usual, Register, Run};
+
+fn issue(processor: u8) -> Step {
+    Step::Issue { processor }
+}
+
+/// A commit that is not a read's.
+fn commit(processor: u8, action: u8) -> Step {
+    Step::Commit { processor, action, source: 0 }
+}
+
+/// A read's commit, taking the value of an item.
+fn take(processor: u8, action: u8, source: u8) -> Step {
+    Step::Commit { processor, action, source }
+}
+
+fn run(name: &'static str, case: CaseBuilder, steps: &[Step], code: u32) -> Run {
+    let case = case.build().expect("a sound case");
+    let taken = steps.len() as u32 - u32::from(code != 0);
+    Run { name, block: case.block().to_vec(), schedule: schedule(steps), code, steps: taken }
+}
+
+/// A run found by the enumerator that ends with these registers.
+fn found(name: &'static str, case: CaseBuilder, wanted: &[(Register, u16)]) -> Run {
+    let sound = case.clone().build().expect("a sound case");
+    let meets = |outcome: &Outcome| wanted.iter().all(|&((p, k), value)| outcome.registers[p][k] == Some(value));
+    let instructions: usize = sound.processors().iter().map(|processor| processor.program.len()).sum();
+    let steps = states::find(&sound, 2 * instructions as u8, meets).expect("a schedule that reaches the result");
+    run(name, case, &steps, 0)
+}
+
+/// One processor and one location.
+fn alone(program: &[Instr]) -> CaseBuilder {
+    usual(1, &[program])
+}
+
+/// Every run, those of document 01 and source 000 first.
+pub fn runs() -> Vec<Run> {
+    [scope(), bad_steps(), refused_issues(), refused_commits(), hidden(), refused_inputs()].concat()
+}
+
+fn scope() -> Vec<Run> {
+    let second_first = [issue(0), issue(0), commit(0, 1)];
+    let finishes = [issue(0), commit(0, 0), issue(0), commit(0, 1), issue(0), commit(0, 2)];
+    // The trace that source 000 gives in section 4.
+    let trace = [issue(0), issue(1), issue(0), issue(1), commit(0, 2), commit(1, 3), take(0, 0, 11), take(1, 1, 10)];
+    vec![
+        found("000-figure-2", figure_2(), &[((1, 2), 1), ((1, 3), 2), ((2, 2), 2), ((2, 3), 1)]),
+        found("000-figure-8", figure_8(), &[((0, 2), 1), ((1, 2), 1)]),
+        run("000-figure-8-trace", figure_8(), &trace, 0),
+        run("goto-0-49th", alone(&[goto(0)]), &[issue(0); 49], 23),
+        run("acquire-acquire-release", alone(&[acquire(0), acquire(0), release(0)]), &finishes, 0),
+        run("acquire-out-of-turn", alone(&[acquire(0), acquire(0)]), &second_first, 28),
+        run("acquire-M", alone(&[acquire(1)]), &[issue(0), commit(0, 0)], 30),
+    ]
+}
+
+fn bad_steps() -> Vec<Run> {
+    let raw = |name, step: [u8; 4]| Run { schedule: step.to_vec(), steps: 0, code: 20, ..run(name, alone(&[]), &[], 0) };
+    vec![
+        raw("kind-2", [2, 0, 0, 0]),
+        raw("processor-P", [1, 1, 0, 0]),
+        raw("issue-byte-2", [0, 0, 1, 0]),
+        raw("issue-byte-3", [0, 0, 0, 1]),
+    ]
+}
+
+fn refused_issues() -> Vec<Run> {
+    vec![
+        run("issue-after-branch", alone(&[branch(0, 0)]), &[issue(0), issue(0)], 21),
+        run("issue-at-end", alone(&[]), &[issue(0)], 22),
+        run("address-undefined", alone(&[read(2, 3)]), &[issue(0)], 24),
+        run("address-queued", alone(&[set(3, 0), write(3, 1)]), &[issue(0), issue(0)], 24),
+        run("address-M", alone(&[write(1, 1)]), &[issue(0)], 25),
+    ]
+}
+
+fn refused_commits() -> Vec<Run> {
+    let two = |a: &[Instr], b: &[Instr]| usual(1, &[a, b]);
+    let held = [issue(0), commit(0, 0), issue(1), commit(1, 1)];
+    vec![
+        run("commit-not-issued", alone(&[goto(1)]), &[commit(0, 0)], 26),
+        run("commit-of-another", two(&[goto(1)], &[]), &[issue(0), commit(1, 0)], 26),
+        run("commit-twice", alone(&[goto(1)]), &[issue(0), commit(0, 0), commit(0, 0)], 26),
+        run("source-of-a-write", alone(&[write(0, 1)]), &[issue(0), take(0, 0, 1)], 27),
+        run("read-past-write", alone(&[write(0, 1), read(2, 0)]), &[issue(0), issue(0), take(0, 1, 0)], 28),
+        run("read-past-acquire", alone(&[acquire(0), read(2, 0)]), &[issue(0), issue(0), take(0, 1, 0)], 28),
+        run("release-past-goto", alone(&[goto(1), release(0)]), &[issue(0), issue(0), commit(0, 1)], 28),
+        run("goto-past-acquire", alone(&[acquire(0), goto(2)]), &[issue(0), issue(0), commit(0, 1)], 0),
+        run("write-past-read", alone(&[read(2, 0), write(0, 1)]), &[issue(0), issue(0), commit(0, 1)], 0),
+        run("value-undefined", alone(&[write(0, 2)]), &[issue(0), commit(0, 0)], 29),
+        run("release-of-free", alone(&[release(0)]), &[issue(0), commit(0, 0)], 31),
+        run("acquire-of-held", two(&[acquire(0)], &[acquire(0)]), &held, 31),
+    ]
+}
+
+/// What a read may not take: document 01's wrong readings among them.
+fn hidden() -> Vec<Run> {
+    let pair = usual(2, &[&[write(0, 1)], &[read(2, 0)]]);
+    let late = [issue(0), issue(1), issue(0), commit(0, 0), issue(0), commit(0, 2), commit(0, 3), commit(1, 1)];
+    let late = [&late[..], &[issue(1), take(1, 4, 0)]].concat();
+    let locked = usual(2, &[&[acquire(1), write(0, 1), release(1)], &[acquire(1), read(2, 0)]]);
+    let own = alone(&[write(0, 1), read(2, 0)]);
+    vec![
+        run("source-without-value", pair.clone(), &[issue(0), issue(1), take(1, 1, 8)], 32),
+        run("source-not-issued", pair.clone(), &[issue(1), take(1, 0, 9)], 32),
+        run("source-a-read", pair.clone(), &[issue(1), take(1, 0, 8)], 32),
+        run("source-elsewhere", pair.clone(), &[issue(1), take(1, 0, 1)], 32),
+        run("source-old", pair, &[issue(0), commit(0, 0), issue(1), take(1, 1, 0)], 0),
+        run("source-own-later", alone(&[read(2, 0), write(0, 1)]), &[issue(0), issue(0), commit(0, 1), take(0, 0, 9)], 32),
+        run("source-overwritten", own, &[issue(0), commit(0, 0), issue(0), take(0, 1, 0)], 32),
+        run("acquire-issued-early", locked, &late, 32),
+    ]
+}
+
+/// Refusals before the first step, in the order they are tried.
+pub(crate) fn refused_inputs() -> Vec<Run> {
+    let sound = alone(&[goto(1)]).build().expect("a sound case").block();
+    let given = |name, block: &[u8], schedule: Vec<u8>, code| Run { name, block: block.to_vec(), schedule, code, steps: 0 };
+    let changed = |name, at: usize, byte: u8, code| {
+        let mut block = sound;
+        block[at] = byte;
+        block::seal(&mut block);
+        given(name, &block, vec![9], code)
+    };
+    let mut unsealed = sound;
+    unsealed[510] ^= 1;
+    vec![
+        given("block-short", &sound[..511], vec![], 1),
+        given("block-check", &unsealed, vec![9], 2),
+        changed("block-sizes", 3, 1, 3),
+        changed("block-counts", 5, 1, 4),
+        changed("block-preset", 90, 1, 5),
+        changed("block-instruction", 96, 2, 6),
+        changed("block-unused", 509, 1, 7),
+        given("schedule-piece", &sound, vec![0, 0, 0, 0, 1], 8),
+        given("schedule-long", &sound, vec![0; 388], 8),
+    ]
+}

@@ -1,0 +1,68 @@
+//! An enumerator of WOMM's states, written from document 01 and source 000 alone.
+//!
+//! Breadth first, a level a step. An action is named by its processor and its index in that
+//! processor's issue order, so that runs which differ only in how they interleave meet in one state.
+#![forbid(unsafe_code)]
+
+mod order;
+mod replay;
+mod search;
+mod state;
+
+pub use replay::Run;
+pub use search::{find, list, Listing};
+
+use model::{block, Listed, Lister, Refusal, Replayed, Replayer, ENDING, RECORD, STEPS};
+
+/// The enumerator behind the bytes that the library takes.
+pub struct States;
+
+impl Lister for States {
+    fn outcomes(&self, block: &[u8], bound: u32, records: &mut [u8]) -> Listed {
+        records.fill(0);
+        match outcomes(block, bound, records.len() / RECORD) {
+            Ok(listing) => {
+                for (record, outcome) in records.chunks_exact_mut(RECORD).zip(&listing.outcomes) {
+                    record.copy_from_slice(&outcome.bytes());
+                }
+                Listed { code: 0, count: listing.outcomes.len() as u32, cut: listing.cut }
+            }
+            Err(refusal) => Listed { code: refusal.code(), count: 0, cut: false },
+        }
+    }
+}
+
+fn outcomes(block: &[u8], bound: u32, room: usize) -> Result<Listing, Refusal> {
+    let case = block::read(block)?;
+    let bound = u8::try_from(bound).ok().filter(|&bound| usize::from(bound) <= STEPS).ok_or(Refusal::Bound)?;
+    let listing = list(&case, bound);
+    if listing.outcomes.len() > room {
+        return Err(Refusal::Room);
+    }
+    Ok(listing)
+}
+
+impl Replayer for States {
+    fn replay(&self, block: &[u8], schedule: &[u8], result: &mut [u8]) -> Replayed {
+        result.fill(0);
+        let case = match replayable(block, schedule, result.len()) {
+            Ok(case) => case,
+            Err(refusal) => return Replayed { code: refusal.code(), steps: 0 },
+        };
+        let mut run = Run::new(&case);
+        let stopped = schedule.chunks_exact(4).find_map(|step| run.take([step[0], step[1], step[2], step[3]]).err());
+        result.copy_from_slice(&run.ending().bytes());
+        Replayed { code: stopped.map_or(0, Refusal::code), steps: run.steps() }
+    }
+}
+
+fn replayable(block: &[u8], schedule: &[u8], room: usize) -> Result<model::Case, Refusal> {
+    let case = block::read(block)?;
+    if !schedule.len().is_multiple_of(4) || schedule.len() > 4 * STEPS {
+        return Err(Refusal::ScheduleLength);
+    }
+    if room != ENDING {
+        return Err(Refusal::ResultLength);
+    }
+    Ok(case)
+}

@@ -1,0 +1,91 @@
+//! Which outcomes there are, and a schedule that reaches one.
+
+use std::collections::{BTreeSet, HashMap, HashSet};
+
+use model::{Case, Outcome, Step};
+
+use crate::replay::Run;
+use crate::state::{Move, State};
+
+/// All outcomes within a bound.
+#[derive(Clone, Debug, Default)]
+pub struct Listing {
+    pub outcomes: BTreeSet<Outcome>,
+    pub cut: bool,
+    /// Distinct states seen.
+    pub states: usize,
+    /// Accepted schedules of at most the bound's steps: what a search without a memory walks through.
+    pub schedules: u128,
+}
+
+/// Lists the outcomes of a case. Level n holds the states after n steps, with the number of schedules to each.
+pub fn list(case: &Case, bound: u8) -> Listing {
+    let mut listing = Listing::default();
+    let mut level = HashMap::from([(State::start(case), 1)]);
+    for left in (0..=bound).rev() {
+        listing.states += level.len();
+        listing.schedules += level.values().sum::<u128>();
+        listing.cut = left == 0 && level.keys().any(|state| !state.finished(case));
+        let finished = level.keys().filter(|state| state.finished(case));
+        listing.outcomes.extend(finished.map(|state| state.ending(case).outcome));
+        if left > 0 {
+            level = following(case, &level);
+        }
+    }
+    listing
+}
+
+fn following(case: &Case, level: &HashMap<State, u128>) -> HashMap<State, u128> {
+    let mut next = HashMap::new();
+    for (state, schedules) in level {
+        for (_, after) in state.moves(case) {
+            *next.entry(after).or_insert(0) += schedules;
+        }
+    }
+    next
+}
+
+/// A schedule of at most `bound` steps that ends finished with a wanted outcome.
+pub fn find(case: &Case, bound: u8, wanted: impl Fn(&Outcome) -> bool) -> Option<Vec<Step>> {
+    let mut search = Search { case, wanted, seen: HashSet::new(), path: vec![] };
+    search.reaches(State::start(case), bound).then(|| numbered(case, &search.path))
+}
+
+struct Search<'a, F> {
+    case: &'a Case,
+    wanted: F,
+    seen: HashSet<State>,
+    path: Vec<Move>,
+}
+
+impl<F: Fn(&Outcome) -> bool> Search<'_, F> {
+    /// Depth first; a state seen before needs no second visit, as all ways to it have the same length.
+    fn reaches(&mut self, state: State, left: u8) -> bool {
+        if state.finished(self.case) {
+            return (self.wanted)(&state.ending(self.case).outcome);
+        }
+        if left == 0 || !self.seen.insert(state.clone()) {
+            return false;
+        }
+        for (taken, next) in state.moves(self.case) {
+            self.path.push(taken);
+            if self.reaches(next, left - 1) {
+                return true;
+            }
+            self.path.pop();
+        }
+        false
+    }
+}
+
+/// The moves as steps, with actions and items by their numbers.
+fn numbered(case: &Case, path: &[Move]) -> Vec<Step> {
+    let mut run = Run::new(case);
+    let mut steps = vec![];
+    for &taken in path {
+        let step = run.step(taken);
+        run.take(step.bytes()).expect("the path was accepted");
+        steps.push(step);
+    }
+    steps
+}

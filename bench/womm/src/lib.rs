@@ -1,0 +1,69 @@
+//! The proved library behind safe and typed calls: a case, a schedule or a bound goes in, and decoded
+//! outcomes or a refusal in document 01's words come out.
+#![deny(unsafe_code)]
+
+mod ffi;
+
+pub use model::{ops, Case, CaseBuilder, Ending, Instr, Listed, Lister, Outcome, Refusal, Replayed, Replayer, Step};
+
+use model::{schedule, ENDING, RECORD};
+
+/// The library over plain bytes.
+pub struct Library;
+
+impl Lister for Library {
+    fn outcomes(&self, block: &[u8], bound: u32, records: &mut [u8]) -> Listed {
+        ffi::outcomes(block, bound, records)
+    }
+}
+
+impl Replayer for Library {
+    fn replay(&self, block: &[u8], schedule: &[u8], result: &mut [u8]) -> Replayed {
+        ffi::replay(block, schedule, result)
+    }
+}
+
+/// All outcomes within a bound, in byte order.
+#[derive(Clone, Debug, PartialEq, Eq)]
+pub struct Listing {
+    pub outcomes: Vec<Outcome>,
+    pub cut: bool,
+}
+
+/// How a schedule went: the steps taken, what stopped it if not all were, and the state then.
+#[derive(Clone, Debug, PartialEq, Eq)]
+pub struct Replay {
+    pub steps: u32,
+    pub stopped: Option<Refusal>,
+    pub ending: Ending,
+}
+
+/// Lists a case's outcomes, with room for so many.
+pub fn outcomes(case: &Case, bound: u32, room: usize) -> Result<Listing, Refusal> {
+    let mut records = vec![0; room * RECORD];
+    let listed = ffi::outcomes(&case.block(), bound, &mut records);
+    match refusal(listed.code) {
+        Some(refusal) => Err(refusal),
+        None => {
+            let records = records.chunks_exact(RECORD).take(listed.count as usize);
+            let read = |record: &[u8]| Outcome::read(record.try_into().expect("96 bytes"));
+            Ok(Listing { outcomes: records.map(read).collect(), cut: listed.cut })
+        }
+    }
+}
+
+/// Replays a schedule. A step that is refused stops it; codes 1 to 9 refuse it whole.
+pub fn replay(case: &Case, steps: &[Step]) -> Result<Replay, Refusal> {
+    let mut result = [0; ENDING];
+    let replayed = ffi::replay(&case.block(), &schedule(steps), &mut result);
+    match refusal(replayed.code) {
+        Some(refusal) if refusal < Refusal::BadStep => Err(refusal),
+        stopped => Ok(Replay { steps: replayed.steps, stopped, ending: Ending::read(&result) }),
+    }
+}
+
+fn refusal(code: u32) -> Option<Refusal> {
+    let refusal = Refusal::from_code(code);
+    assert!(code == 0 || refusal.is_some(), "the library gave {code}, which is no code of document 01");
+    refusal
+}

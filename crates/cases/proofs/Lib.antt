@@ -1,0 +1,10 @@
+pub mod Lowest
+pub mod Fields
+pub mod Agree
+pub mod Puts
+pub mod Decoding
+pub mod Slots
+pub mod Ranges
+pub mod Held
+pub mod Kept
+pub mod RoundTrip

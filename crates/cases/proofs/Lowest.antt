@@ -1,0 +1,132 @@
+-- The lowest position that is bad for a code, and the first code that has one. Assumes nothing.
+use mathlib.Core.Path.{_≡_, refl, ap, sym, _∙_, subst}
+use mathlib.Core.Logic.{⊎-elim}
+use mathlib.Core.Bool.{Bool, true, false, cond, false≢true}
+use mathlib.Core.List.{List}
+use Prim.Native.Nat.{ℕ, zero, suc, _<_, _≤_}
+use native.Mathlib.Omega.{arith}
+use native.Mathlib.Decide.{decLt}
+use lib.Dec.{lit<}
+use Rattle.words.specs.Small.{someBelow}
+use Rattle.words.specs.Refusals.{firstOf}
+use Rattle.words.proofs.Bools.{decide, below-cases, below-make}
+use Rattle.words.proofs.First.{hit, miss, none, first}
+use Rattle.cases.specs.Block.{bad3, bad4, bad5, bad6, bad7, faults}
+use Rattle.cases.specs.Faults.{lowest, bad, faultOf}
+
+pub lowest-is : (n : ℕ) (f : ℕ → Bool) (r : ℕ) → r ≤ n → ((k : ℕ) → k < r → f k ≡ false) → (r < n → f r ≡ true) → r ≡ lowest n f
+unfolding lowest
+lowest-is zero f r h before at = omega arith
+lowest-is (suc n) f zero h before at = rw (at (omega arith))
+lowest-is (suc n) f (suc r) h before at = rw (before 0 (omega arith)) (ap suc (lowest-is n (λ i. f (suc i)) r (omega arith) (λ k b. before (suc k) (omega arith)) (λ b. at (omega arith))))
+
+pub no-position : (n : ℕ) (f : ℕ → Bool) → ((k : ℕ) → k < n → f k ≡ false) → someBelow n f ≡ false
+no-position n f before = ⊎-elim (λ h. let r = below-cases n f h in absurd (false≢true (sym (before (r .0) (r .1)) ∙ r .2))) (λ h. h) (decide (someBelow n f))
+
+pub lowest-hit : (n : ℕ) (f : ℕ → Bool) → lowest n f < n → f (lowest n f) ≡ true
+unfolding lowest
+lowest-hit zero f h = absurd (omega arith)
+lowest-hit (suc n) f h = step (f 0) refl (lowest-hit n (λ i. f (suc i))) h
+  where
+    low : ℕ
+    low = lowest n (λ i. f (suc i))
+
+    step : (b : Bool) → f 0 ≡ b → (low < n → f (suc low) ≡ true) → cond b 0 (suc low) < suc n → f (cond b 0 (suc low)) ≡ true
+    step true e more h = e
+    step false e more h = more (omega arith)
+
+pub lowest-none : (n : ℕ) (f : ℕ → Bool) (k : ℕ) → k < lowest n f → f k ≡ false
+unfolding lowest
+lowest-none zero f k h = absurd (omega arith)
+lowest-none (suc n) f k h = step (f 0) refl (lowest-none n (λ i. f (suc i))) k h
+  where
+    low : ℕ
+    low = lowest n (λ i. f (suc i))
+
+    step : (b : Bool) → f 0 ≡ b → ((k : ℕ) → k < low → f (suc k) ≡ false) → (k : ℕ) → k < cond b 0 (suc low) → f k ≡ false
+    step true e more k h = absurd (omega arith)
+    step false e more zero h = e
+    step false e more (suc k) h = more k (omega arith)
+
+-- a code's test at each position, as the code finds it: some position is bad, or none
+
+module _ (n : ℕ) (f : ℕ → Bool) where
+  pub some-bad : lowest n f < n → someBelow n f ≡ true
+  some-bad h = below-make n f (lowest n f) h (lowest-hit n f h)
+
+  pub none-bad : n ≤ lowest n f → someBelow n f ≡ false
+  none-bad h = no-position n f (λ k b. lowest-none n f k (omega arith))
+
+  pub none-lowest : ((k : ℕ) → k < n → f k ≡ false) → n ≡ lowest n f
+  none-lowest h = lowest-is n f n (omega arith) h (λ b. absurd (omega arith))
+
+-- the codes before one have no bad position
+abbrev pub Passed : List ℕ → ℕ → Type 0
+Passed s code = (k : ℕ) → k < code → someBelow 510 (bad s k) ≡ false
+
+module _ (s : List ℕ) where
+  no-byte : (k : ℕ) → k < 3 → (i : ℕ) → bad s k i ≡ false
+  unfolding bad
+  no-byte zero h i = refl
+  no-byte (suc zero) h i = refl
+  no-byte (suc (suc zero)) h i = refl
+  no-byte (suc (suc (suc k))) h i = absurd (omega arith)
+
+  pub passed-start : Passed s 3
+  passed-start k h = no-position 510 (bad s k) (λ i b. no-byte k h i)
+
+  pub passed-more : (code : ℕ) → Passed s code → 510 ≤ lowest 510 (bad s code) → Passed s (suc code)
+  passed-more code passed h k b = elim (decLt k code) [ yes l ↦ passed k l | no g ↦ subst (λ (n : ℕ). someBelow 510 (bad s n) ≡ false) (omega arith) (none-bad 510 (bad s code) h) ]
+
+  first-code : (code : ℕ) → 3 ≤ code → code < 8 → Passed s code → someBelow 510 (bad s code) ≡ true → code ≡ firstOf (faults s)
+  unfolding bad
+  first-code zero l h p e = absurd (omega arith)
+  first-code (suc zero) l h p e = absurd (omega arith)
+  first-code (suc (suc zero)) l h p e = absurd (omega arith)
+  first-code (suc (suc (suc zero))) l h p e = first (faults s) (hit e)
+  first-code (suc (suc (suc (suc zero)))) l h p e = first (faults s) (miss (p 3 (lit< tt)) (hit e))
+  first-code (suc (suc (suc (suc (suc zero))))) l h p e = first (faults s) (miss (p 3 (lit< tt)) (miss (p 4 (lit< tt)) (hit e)))
+  first-code (suc (suc (suc (suc (suc (suc zero)))))) l h p e = first (faults s) (miss (p 3 (lit< tt)) (miss (p 4 (lit< tt)) (miss (p 5 (lit< tt)) (hit e))))
+  first-code (suc (suc (suc (suc (suc (suc (suc zero))))))) l h p e =
+      first (faults s) (miss (p 3 (lit< tt)) (miss (p 4 (lit< tt)) (miss (p 5 (lit< tt)) (miss (p 6 (lit< tt)) (hit e)))))
+  first-code (suc (suc (suc (suc (suc (suc (suc (suc k)))))))) l h p e = absurd (omega arith)
+
+  no-code : Passed s 8 → 0 ≡ firstOf (faults s)
+  unfolding bad
+  no-code p = first (faults s) (miss (p 3 (lit< tt)) (miss (p 4 (lit< tt)) (miss (p 5 (lit< tt)) (miss (p 6 (lit< tt)) (miss (p 7 (lit< tt)) none)))))
+
+  fault-is : (code at : ℕ) → code ≡ firstOf (faults s) → at ≡ lowest 510 (bad s code) → record { code = code; at = at } ≡ faultOf s
+  unfolding faultOf
+  fault-is code at p q = let r = q ∙ ap (λ (n : ℕ). lowest 510 (bad s n)) p in λ j. record { code = p j; at = r j }
+
+  -- the answers of judge: at a code with a bad position, and after the last code
+  pub fault-found : (code at : ℕ) → 3 ≤ code → code < 8 → Passed s code → at ≡ lowest 510 (bad s code) → at < 510 → record { code = code; at = at } ≡ faultOf s
+  fault-found code at l h p e b = fault-is code at (first-code code l h p (some-bad 510 (bad s code) (subst (λ (n : ℕ). n < 510) e b))) e
+
+  pub fault-none : (code : ℕ) → 8 ≤ code → code ≤ 8 → Passed s code → record { code = 0; at = 510 } ≡ faultOf s
+  fault-none code l h p = fault-is 0 510 (no-code (subst (Passed s) (omega arith) p)) (none-lowest 510 (bad s 0) (λ k b. no-byte 0 (lit< tt) k))
+
+-- bad: the test of each code
+module _ (s : List ℕ) (i : ℕ) where
+  pub bad-3 : bad3 s i ≡ bad s 3 i
+  unfolding bad
+  bad-3 = refl
+
+  pub bad-4 : bad4 s i ≡ bad s 4 i
+  unfolding bad
+  bad-4 = refl
+
+  pub bad-5 : bad5 s i ≡ bad s 5 i
+  unfolding bad
+  bad-5 = refl
+
+  pub bad-6 : bad6 s i ≡ bad s 6 i
+  unfolding bad
+  bad-6 = refl
+
+  pub bad-7 : bad7 s i ≡ bad s 7 i
+  unfolding bad
+  bad-7 = refl
+
+pub last-code : (code : ℕ) → 3 ≤ code → code < 8 → (code ≡ 3 → ⊥) → (code ≡ 4 → ⊥) → (code ≡ 5 → ⊥) → (code ≡ 6 → ⊥) → code ≡ 7
+last-code code l h a b c d = omega arith

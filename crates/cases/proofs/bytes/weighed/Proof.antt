@@ -1,0 +1,14 @@
+use native.Mathlib.Omega.{arith}
+use Rattle.cases.proofs.Decoding.{weight-bound}
+use borrow.Author.Needs.{needs}
+use Rattle.cases.proofs.bytes.weighed.Statement.{statement}
+use Rattle.cases.proofs.bytes.weighed.Tie as tie
+
+mul-result : tie.Need-mul-result
+mul-result c = let h = weight-bound (c .args .weight) (c .args .byte) (c .pre .0) (c .pre .1) in omega arith
+
+returns : tie.Need-returns
+returns c = (search needs, weight-bound (c .args .weight) (c .args .byte) (c .pre .0) (c .pre .1))
+
+pub weighed-spec : {M : Type 1} → statement M
+weighed-spec = tie.close (tie.spec mul-result returns)

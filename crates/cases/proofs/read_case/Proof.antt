@@ -1,0 +1,27 @@
+use Rattle.cases.proofs.Decoding.{read-refused, read-accepted}
+use borrow.Author.Needs.{needs}
+use Rattle.cases.proofs.read_case.Statement.{statement}
+use Rattle.cases.proofs.read_case.Tie as tie
+
+refusal-requires : tie.Need-refusal-requires
+refusal-requires c κs = search needs
+
+nothing-requires : tie.Need-nothing-requires
+nothing-requires c κs = search needs
+
+returns : tie.Need-returns
+returns c =
+    let at = c .before .before in
+    read-refused (at .before .before .args .block .now) (at .refusal .result) (c .nothing .result) (at .refusal .ensures) (c .before .if1 .taken) (c .nothing .ensures)
+
+case-of-requires : tie.Need-case-of-requires
+case-of-requires c κs = search needs
+
+returns-2 : tie.Need-returns-2
+returns-2 c =
+    let at = c .before .before in
+    read-accepted (at .before .before .args .block .now) (at .refusal .result) (c .case-of .result) (at .refusal .ensures) (c .before .if1 .left) (c .case-of .ensures)
+
+pub read-case-spec : {M : Type 1} → statement M
+read-case-spec =
+    tie.close (tie.spec refusal-requires nothing-requires returns case-of-requires returns-2)

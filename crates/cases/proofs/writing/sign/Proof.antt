@@ -1,0 +1,42 @@
+use Rattle.cases.proofs.Puts.{signed}
+use borrow.Author.Needs.{needs}
+use Rattle.cases.proofs.writing.sign.Statement.{statement}
+use Rattle.cases.proofs.writing.sign.Tie as tie
+
+check-requires : tie.Need-check-requires
+check-requires c κs = search needs
+
+cast-sum : tie.Need-cast-sum
+cast-sum c = search needs
+
+two-requires : tie.Need-two-requires
+two-requires c κs = search needs
+
+slice-aggregate-put : tie.Need-slice-aggregate-put
+slice-aggregate-put c = search needs
+
+put-requires : tie.Need-put-requires
+put-requires c κs = search needs
+
+same-length : tie.Need-same-length
+same-length c = search needs
+
+returns : tie.Need-returns
+returns c =
+    let put = c .before .before in
+    let t = put .before .before .before in
+    let k = t .before in
+    let start = k .before .before .before in
+    signed (start .args .block .now) (put .put .last .0) (t .two .result) (k .check .result) (start .pre) (k .check .ensures .0) (t .two .ensures) (put .put .ensures)
+
+pub sign-spec : {M : Type 1} → statement M
+sign-spec =
+    tie.close
+    (tie.spec
+    check-requires
+    cast-sum
+    two-requires
+    slice-aggregate-put
+    put-requires
+    same-length
+    returns)

@@ -1,0 +1,238 @@
+// Which bytes of a block are bad for codes 3 to 7, and the first code with its lowest bad position.
+use crate::Fault;
+use crate::bytes::byte;
+use crate::bytes::number;
+use crate::bytes::word;
+ghost use mathlib.Core.Path.{_≡_};
+ghost use Prim.Native.Nat.{_-_, _≤_, _<_};
+ghost use Rattle.cases.specs.Instruction.{badField, fieldAt, fieldOf};
+ghost use Rattle.cases.specs.Block.{within as withinOf, marked as isMarked, noProc, noLoc, used as isUsed, bad3 as isBad3, bad4 as isBad4, zero5 as mustBeZero5, bad5 as isBad5, badByte, bad6 as isBad6, bad7 as isBad7};
+ghost use Rattle.cases.specs.Faults.{bad as isBad, lowest as lowestOf, faultOf};
+
+// How far position i lies past another, 0 before it.
+fn past(from: usize, i: usize) -> usize
+    ensures { λ r. ⌜ r ≡ i - from ⌝ }
+{
+    if i < from {
+        return 0;
+    }
+    i - from
+}
+
+fn within(from: usize, to: usize, i: usize) -> bool
+    ensures { λ r. ⌜ r ≡ withinOf from to i ⌝ }
+{
+    (from <= i) & (i < to)
+}
+
+fn marked(block: &[u8], i: usize) -> bool
+    ensures { λ r. ⌜ r ≡ isMarked (now (block .entry)) i ⌝ }
+{
+    !(byte(block, i) == 0)
+}
+
+fn no_proc(block: &[u8], p: usize) -> bool
+    ensures { λ r. ⌜ r ≡ noProc (now (block .entry)) p ⌝ }
+{
+    number(block, 0) <= p
+}
+
+fn no_loc(block: &[u8], l: usize) -> bool
+    ensures { λ r. ⌜ r ≡ noLoc (now (block .entry)) l ⌝ }
+{
+    number(block, 1) <= l
+}
+
+fn used(block: &[u8], p: usize, n: usize) -> bool
+    requires { ⌜ p < 510 ⌝ }
+    ensures { λ r. ⌜ r ≡ isUsed (now (block .entry)) p n ⌝ }
+{
+    n < number(block, 4 + p)
+}
+
+fn bad3(block: &[u8], i: usize) -> bool
+    ensures { λ r. ⌜ r ≡ isBad3 (now (block .entry)) i ⌝ }
+{
+    let procs = number(block, 0);
+    let locs = number(block, 1);
+    let bound = number(block, 2);
+    ((i == 0) & ((procs == 0) | (4 < procs)))
+        | ((i == 1) & ((locs == 0) | (8 < locs)))
+        | ((i == 2) & (96 < bound))
+        | ((i == 3) & marked(block, 3))
+}
+
+fn bad4(block: &[u8], i: usize) -> bool
+    ensures { λ r. ⌜ r ≡ isBad4 (now (block .entry)) i ⌝ }
+{
+    within(4, 8, i) & ((12 < number(block, i)) | (no_proc(block, past(4, i)) & marked(block, i)))
+}
+
+fn zero5(block: &[u8], i: usize) -> bool
+    requires { ⌜ i < 510 ⌝ }
+    ensures { λ r. ⌜ r ≡ mustBeZero5 (now (block .entry)) i ⌝ }
+{
+    let p = past(12, i) / 16;
+    let mask = number(block, 8 + p) as u64;
+    let set = words::has(mask, past(12, i) / 2 % 8);
+    (within(8, 12, i) & no_proc(block, past(8, i)))
+        | (within(12, 76, i) & (no_proc(block, p) | !set))
+        | (within(76, 92, i) & no_loc(block, past(76, i) / 2))
+}
+
+fn bad5(block: &[u8], i: usize) -> bool
+    requires { ⌜ i < 510 ⌝ }
+    ensures { λ r. ⌜ r ≡ isBad5 (now (block .entry)) i ⌝ }
+{
+    zero5(block, i) & marked(block, i)
+}
+
+// The five bytes after each op from 0 to 10: 0 zero, 1 a register, 2 any byte, 3 the low byte of a label.
+const FIELDS: [u8; 55] = [
+    0,
+    0,
+    0,
+    0,
+    0,
+    1,
+    1,
+    0,
+    0,
+    0,
+    0,
+    1,
+    1,
+    0,
+    0,
+    1,
+    0,
+    0,
+    2,
+    2,
+    1,
+    1,
+    1,
+    0,
+    0,
+    1,
+    1,
+    1,
+    0,
+    0,
+    1,
+    1,
+    1,
+    0,
+    0,
+    0,
+    1,
+    0,
+    3,
+    2,
+    0,
+    0,
+    0,
+    3,
+    2,
+    0,
+    1,
+    0,
+    0,
+    0,
+    0,
+    1,
+    0,
+    0,
+    0,
+];
+
+// What byte k after this op may be.
+fn field(op: usize, k: usize) -> u8
+    requires { ⌜ k < 5 ⌝ }
+    ensures { λ r. ⌜ fieldOf r ≡ fieldAt op k ⌝ }
+{
+    if op < 11 {
+        return FIELDS[5 * op + k];
+    }
+    0
+}
+
+fn bad_field(field: u8, n: usize, v: usize, w: usize) -> bool
+    ensures { λ r. ⌜ r ≡ badField (fieldOf field) n v w ⌝ }
+{
+    ((field == 0) & !(v == 0)) | ((field == 1) & (8 <= v)) | ((2 < field) & (n < w))
+}
+
+fn bad_byte(block: &[u8], op: usize, n: usize, i: usize) -> bool
+    requires { ⌜ i < 510 ⌝ }
+    ensures { λ r. ⌜ r ≡ badByte (now (block .entry)) op n i ⌝ }
+{
+    let k = past(92, i) % 6;
+    if k == 0 {
+        return (op == 0) | (10 < op);
+    }
+    bad_field(field(op, k - 1), n, number(block, i), word(block, i))
+}
+
+fn bad6(block: &[u8], i: usize) -> bool
+    requires { ⌜ i < 510 ⌝ }
+    ensures { λ r. ⌜ r ≡ isBad6 (now (block .entry)) i ⌝ }
+{
+    let p = past(92, i) / 72;
+    let op = number(block, past(past(92, i) % 6, i));
+    within(92, 380, i)
+        & used(block, p, past(92, i) % 72 / 6)
+        & bad_byte(block, op, number(block, 4 + p), i)
+}
+
+fn bad7(block: &[u8], i: usize) -> bool
+    requires { ⌜ i < 510 ⌝ }
+    ensures { λ r. ⌜ r ≡ isBad7 (now (block .entry)) i ⌝ }
+{
+    let used = used(block, past(92, i) / 72, past(92, i) % 72 / 6);
+    ((within(92, 380, i) & !used) | within(380, 510, i)) & marked(block, i)
+}
+
+// Position i is bad for a code.
+fn bad(block: &[u8], code: u8, i: usize) -> bool
+    requires { ⌜ (3 ≤ code) × (code < 8) × (i < 510) ⌝ }
+    ensures { λ r. ⌜ r ≡ isBad (now (block .entry)) code i ⌝ }
+{
+    match code {
+        3 => bad3(block, i),
+        4 => bad4(block, i),
+        5 => bad5(block, i),
+        6 => bad6(block, i),
+        _ => bad7(block, i),
+    }
+}
+
+// The lowest position that is bad for a code, 510 where none is.
+fn lowest(block: &[u8], code: u8) -> usize
+    requires { ⌜ (3 ≤ code) × (code < 8) ⌝ }
+    ensures { λ r. ⌜ r ≡ lowestOf 510 (isBad (now (block .entry)) code) ⌝ }
+{
+    let mut i: usize = 0;
+    while i < 510 {
+        if bad(block, code, i) {
+            return i;
+        }
+        i += 1;
+    }
+    510
+}
+
+// The first of codes 3 to 7 with a bad position, and its lowest.
+pub fn judge(block: &[u8]) -> Fault
+    ensures { λ r. ⌜ r ≡ faultOf (now (block .entry)) ⌝ }
+{
+    let mut code: u8 = 3;
+    while code < 8 {
+        let at = lowest(block, code);
+        if at < 510 {
+            return Fault { code, at };
+        }
+        code += 1;
+    }
+    Fault { code: 0, at: 510 }
+}

@@ -1,0 +1,147 @@
+// The case that a block holds, field by field.
+use crate::Case;
+use crate::Expr;
+use crate::Instr;
+use crate::Slot;
+use crate::bytes::byte;
+use crate::bytes::check;
+use crate::bytes::number;
+use crate::bytes::word;
+use crate::faults::judge;
+ghost use mathlib.Core.Path.{_≡_};
+ghost use Prim.Native.Nat.{ℕ, _+_, _*_, _≤_, _<_};
+ghost use lib.ListN.{length};
+ghost use Rattle.words.specs.Small.{each};
+ghost use Rattle.words.specs.Refusals.{firstOf};
+ghost use Rattle.cases.specs.Instruction.{instrOf};
+ghost use Rattle.cases.specs.Block.{byte as byteOf, word as wordOf, refusals, slotAt, caseOf, nothing as nothingOf};
+
+// The first of codes 1 to 7 that a block gets, 0 where it gets none.
+pub fn refusal(block: &[u8]) -> u8
+    ensures { λ r. ⌜ r ≡ firstOf (refusals (now (block .entry))) ⌝ }
+{
+    if block.len() != 512 {
+        return 1;
+    }
+    if word(block, 510) != check(block) {
+        return 2;
+    }
+    let fault = judge(block);
+    fault.code
+}
+
+// The instruction of an op and its fields.
+fn instr_of(op: u8, d: u8, a: u8, b: u8, k: u16) -> Instr
+    ensures { λ r. ⌜ r ≡ instrOf op d a b k ⌝ }
+{
+    match op {
+        1 => Instr::Read(d, a),
+        2 => Instr::Write(a, b),
+        3 => Instr::Local(d, Expr::Constant(k)),
+        4 => Instr::Local(d, Expr::Sum(a, b)),
+        5 => Instr::Local(d, Expr::Difference(a, b)),
+        6 => Instr::Local(d, Expr::Equal(a, b)),
+        7 => Instr::Branch(a, k),
+        8 => Instr::Goto(k),
+        9 => Instr::Acquire(a),
+        10 => Instr::Release(a),
+        _ => Instr::Empty,
+    }
+}
+
+// The instruction in slot n.
+fn slot(block: &[u8], n: usize) -> Slot
+    requires { ⌜ n < 48 ⌝ }
+    ensures { λ r. ⌜ r ≡ slotAt (now (block .entry)) n ⌝ }
+{
+    let i = 92 + 6 * n;
+    let k = word(block, i + 4) as u16;
+    Slot {
+        instr: instr_of(
+            byte(block, i),
+            byte(block, i + 1),
+            byte(block, i + 2),
+            byte(block, i + 3),
+            k,
+        ),
+    }
+}
+
+fn read_code(block: &[u8]) -> [Slot; 48]
+    ensures { λ r. ⌜ r ≡ each 48 (slotAt (now (block .entry))) ⌝ }
+{
+    let empty = Slot {
+        instr: Instr::Empty,
+    };
+    let mut code = [empty; 48];
+    let mut n: usize = 0;
+    while n < 48 {
+        let s = slot(block, n);
+        code[n] = s;
+        n += 1;
+    }
+    code
+}
+
+// Fills words with the two-byte numbers that stand one after the other from a position on.
+fn read_words(block: &[u8], at: usize, words: &mut [u16])
+    requires { ⌜ at + 2 * length (now words) ≤ 510 ⌝ }
+    ensures { λ _. ⌜ now (words .exit) ≡ each (length (now (words .entry))) (λ (n : ℕ). wordOf (now (block .entry)) (at + 2 * n)) ⌝ }
+{
+    let mut n: usize = 0;
+    while n < words.len() {
+        words[n] = word(block, at + 2 * n) as u16;
+        n += 1;
+    }
+}
+
+fn read_four(block: &[u8], at: usize) -> [u8; 4]
+    requires { ⌜ at < 510 ⌝ }
+    ensures { λ r. ⌜ r ≡ each 4 (λ (p : ℕ). byteOf (now (block .entry)) (at + p)) ⌝ }
+{
+    [
+        byte(block, at),
+        byte(block, at + 1),
+        byte(block, at + 2),
+        byte(block, at + 3),
+    ]
+}
+
+// The case that the block holds.
+pub fn case_of(block: &[u8]) -> Case
+    ensures { λ r. ⌜ r ≡ caseOf (now (block .entry)) ⌝ }
+{
+    let mut presets = [0u16; 32];
+    read_words(block, 12, &mut presets);
+    let mut memory = [0u16; 8];
+    read_words(block, 76, &mut memory);
+    Case {
+        procs: byte(block, 0),
+        locs: byte(block, 1),
+        bound: byte(block, 2),
+        counts: read_four(block, 4),
+        masks: read_four(block, 8),
+        presets,
+        memory,
+        code: read_code(block),
+    }
+}
+
+// The refused case.
+pub fn nothing() -> Case
+    ensures { λ r. ⌜ r ≡ nothingOf ⌝ }
+{
+    let empty = Slot {
+        instr: Instr::Empty,
+    };
+    Case {
+        procs: 1,
+        locs: 1,
+        bound: 0,
+        counts: [0; 4],
+        masks: [0; 4],
+        presets: [0; 32],
+        memory: [0; 8],
+        code: [empty; 48],
+    }
+}

@@ -1,0 +1,3 @@
+pub mod Buffer
+pub mod Growth
+pub mod Insertion

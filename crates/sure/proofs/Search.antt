@@ -1,0 +1,121 @@
+-- What a search that leaves out spent steps must try. Assumes nothing.
+use mathlib.Core.Path.{_≡_, refl, sym, _∙_}
+use mathlib.Core.Logic.{_⊎_, inl, inr, ⊎-elim}
+use mathlib.Core.Bool.{true, false, not, false≢true}
+use mathlib.Core.List.{List}
+use Prim.Native.Nat.{ℕ, zero, suc}
+use borrow.Author.Tests.{not-true}
+use Rattle.words.proofs.Bools.{and-both}
+use Rattle.cases.specs.declared.Case.{Case}
+use Rattle.runs.proofs.Walk.{stop, go}
+use Rattle.rules.specs.Result.{finished, registers}
+use Rattle.rules.specs.State.{State, initial}
+use Rattle.rules.specs.Step.{after, stepCode, commit, Step}
+use Rattle.rules.proofs.Accepted.{finished-still}
+use Rattle.sure.specs.Quiet.{quiet}
+use Rattle.sure.specs.Sure.{Sized, sure}
+use Rattle.sure.specs.Spent.{wakes, Key, stepBy, Spent, unwoken, fresh}
+use Rattle.sure.proofs.Good.{Good}
+use Rattle.sure.proofs.Reduce.{Done, Open}
+use Rattle.sure.proofs.Quiet.{Taken, done-read, open-read}
+use Rattle.sure.proofs.Moves.{Alike}
+use Rattle.sure.proofs.Whole.{Reached, reached, reached-initial, done-alone, open-alone}
+use Rattle.sure.proofs.Firm.{Firm, firm-step, firm-initial}
+use Rattle.sure.proofs.Spent.{Rested, Through, Else, to-front}
+use Rattle.sure.proofs.Whole
+
+-- what is known of each reachable state
+pub record Known (c : Case) (s : State) : Type 0 where
+  pub reached : Reached c s
+  pub firm : Firm s
+
+pub known-after : (c : Case) (s : State) (t : Step) → Known c s → stepCode c s t ≡ 0 → Known c (after c s t)
+known-after c s t K h = record { reached = reached c (go h (stop refl)) (K .reached); firm = firm-step c s (K .reached .good) (K .firm) t h }
+
+pub known-initial : (c : Case) → Known c (initial c)
+known-initial c = record { reached = reached-initial c; firm = firm-initial c }
+
+-- a first step
+pub record Next (c : Case) (P : State → ℕ → Type 0) (s : State) (n : ℕ) : Type 0 where
+  pub step : Step
+  pub fits : stepCode c s step ≡ 0
+  pub then′ : P (after c s step) n
+
+-- the laws of runs: `P s n`, there is a run of the wanted sort from s with n steps to go
+pub record Runs (c : Case) (P : State → ℕ → Type 0) : Type 0 where
+  pub later : (s : State) (t : Step) (n : ℕ) → stepCode c s t ≡ 0 → P (after c s t) n → P s (suc n)
+  pub alike : (a b : State) (n : ℕ) → Alike a b → P a n → P b n
+  pub next : (s : State) (n : ℕ) → finished c s ≡ false → P s (suc n) → Next c P s n
+  pub alone : (s : State) (t : Step) (n : ℕ) → Reached c s → stepCode c s t ≡ 0 → sure c (suc n) s t ≡ true → P s (suc n) → P (after c s t) n
+  pub reads : (s : State) (p k e n : ℕ) → Good s → stepCode c s (commit p k e) ≡ 0 → quiet c s k ≡ true → P s (suc n) → Taken c (λ x. P x n) s p k
+
+module _ (c : Case) (Z : Sized c) where
+  pub done-runs : (r : List ℕ) → Runs c (λ s n. Done c s n r)
+  done-runs r =
+      record {
+        later = λ s t n h d. Done.later t h d;
+        alike = λ a b n e d. Whole.laws c .outcomes a b n r e d;
+        next = next;
+        alone = λ s t n K h q d. done-alone c Z s K t h n q r d;
+        reads = λ s p k e n G h q d. done-read c s p k e G h q n r d;
+      }
+    where
+      next : (s : State) (n : ℕ) → finished c s ≡ false → Done c s (suc n) r → Next c (λ x m. Done c x m r) s n
+      next s n f (Done.now g e) = absurd (false≢true (sym f ∙ g))
+      next s n f (Done.later t h d) = record { step = t; fits = h; then′ = d }
+
+  pub open-runs : Runs c (Open c)
+  open-runs =
+      record {
+        later = λ s t n h d. Open.later t h d;
+        alike = λ a b n e d. Whole.laws c .cuts a b n e d;
+        next = next;
+        alone = λ s t n K h q d. open-alone c Z s K t h n q d;
+        reads = λ s p k e n G h q d. open-read c s p k e G h q n d;
+      }
+    where
+      next : (s : State) (n : ℕ) → finished c s ≡ false → Open c s (suc n) → Next c (Open c) s n
+      next s n f (Open.later t h d) = record { step = t; fits = h; then′ = d }
+
+-- a finished machine takes no step
+pub at-end : (c : Case) {s : State} {n : ℕ} {r : List ℕ} → finished c s ≡ true → Done c s n r → registers c s ≡ r
+at-end c f (Done.now g e) = e
+at-end c {s} f (Done.later t h d) = absurd (finished-still c s f t h)
+
+pub no-more : (c : Case) {s : State} {n : ℕ} → finished c s ≡ true → Open c s (suc n) → ⊥
+no-more c {s} f (Open.later t h d) = finished-still c s f t h
+
+-- nothing spent, nothing left out
+pub unspent : (c : Case) (P : State → ℕ → Type 0) (n : ℕ) (s : State) → Else c fresh P s n → ⊥
+unspent c P zero s o = o
+unspent c P (suc n) s o = false≢true (o .rests)
+
+-- z is of what is spent by now, and t wakes none of it
+abbrev pub Calm : State → Step → Spent → Spent → Type 0
+Calm s t now z = (a : Key) → z a ≡ true → (now a ≡ true) × (wakes s t a ≡ false)
+
+pub unwoken-calm : (s : State) (t : Step) (sp : Spent) → Calm s t sp (unwoken s t sp)
+unwoken-calm s t sp a h = let w = and-both (sp a) (not (wakes s t a)) h in (w .0, not-true _ (w .1))
+
+-- what a search finds, X, against the runs P
+
+module _ (c : Case) (P : State → ℕ → Type 0) where
+  -- the runs from s that begin with t are done with
+  abbrev pub Tried : Spent → State → ℕ → Type 0 → Step → Type 0
+  Tried sp s n X t = P (after c s t) n → X ⊎ Through c sp (λ x. P x n) s
+
+  -- those that begin with a step of `now` are done with
+  abbrev pub Covers : Spent → State → ℕ → Type 0 → Spent → Type 0
+  Covers sp s n X now = (a : Key) → now a ≡ true → stepCode c s (stepBy s a) ≡ 0 → Tried sp s n X (stepBy s a)
+
+module _ (c : Case) (P : State → ℕ → Type 0) (L : Runs c P) (s : State) (n : ℕ) (sp : Spent) (X : Type 0) where
+  pub covers-start : Covers c P sp s n X sp
+  covers-start a h f p = inr (record { key = a; rests = h; fits = f; then′ = p })
+
+  -- the branch of t, with z of what is spent by now, and nothing that t wakes
+  pub tried-branch : Known c s → (now : Spent) → Rested c s now → Covers c P sp s n X now → (t : Step) → stepCode c s t ≡ 0 → (z : Spent)
+      → Calm s t now z → (P (after c s t) n → X ⊎ Else c z P (after c s t) n) → Tried c P sp s n X t
+  tried-branch K now R C t h z N f p =
+      ⊎-elim (λ x. inl x)
+      (λ o. let b = to-front c s (K .reached .good) (K .firm) t h z (λ a x. R a (N a x .0)) (λ a x. N a x .1) P (λ x m. L .later x t m) (L .alike) n o in C (b .key) (N (b .key) (b .rests) .0) (b .fits) (b .then′))
+      (f p)
