@@ -11,13 +11,13 @@ ghost use mathlib.Core.List.{[], _∷_};
 ghost use Prim.Native.Nat.{ℕ, _+_, _%_, _≤_, _<_};
 ghost use lib.Dec.{eqb, ltb, leb};
 ghost use lib.ListN.{length, getD};
-ghost use Rattle.words.specs.Small.{isNone, orZero};
+ghost use Rattle.words.specs.Small.{isNone, orZero, put};
 ghost use Rattle.words.specs.Refusals.{_when_, firstOf};
 ghost use Rattle.cases.specs.declared.Case.{Case as TheCase};
-ghost use Rattle.rules.specs.Kinds.{kind, accesses, reads};
+ghost use Rattle.rules.specs.Kinds.{kind, accesses, reads, assigns};
 ghost use Rattle.rules.specs.Order.{joinedIf};
-ghost use Rattle.rules.specs.State.{State, valueOf, standsAt};
-ghost use Rattle.rules.specs.Issue.{earlier as earlierOf, issueRefusals, issued as issuedOf};
+ghost use Rattle.rules.specs.State.{State, given, valueOf, standsAt};
+ghost use Rattle.rules.specs.Issue.{renamed as renamedOf, earlier as earlierOf, issueRefusals, issued as issuedOf};
 ghost use Rattle.rules.specs.Step.{issue as issueStep, stepCode};
 ghost use Rattle.orders.specs.Rows.{orderOf, SetOf};
 ghost use Rattle.machine.specs.Shown.{nameOf, namesOf, placeOf, shownValue, shownEntry, shown, Acts};
@@ -257,28 +257,38 @@ pub fn issue_code<'a>(
     address_code(i, v, c.locs)
 }
 
-// Enters e, of processor p, as the next action.
-pub fn enter(c: Case, m: Machine, p: usize, e: Entry) -> Machine
-    requires { ⌜ Valid c m × (p < 4) × (m .issued < 48) × ValidEntry e ⌝ }
+// The names once action k of processor p, of instruction i, has its register renamed.
+pub fn renamed(names: [u8; 32], p: usize, i: Instr, k: usize) -> [u8; 32]
+    requires { ⌜ (length names ≡ 32) × (p < 4) × (k < 48) × Fine i ⌝ }
+    ensures { λ r. ⌜ (length r ≡ 32) × ((c : TheCase) → namesOf c r ≡ put (namesOf c names) p (renamedOf (namesOf c names p) (assigns i) (given k))) ⌝ }
+{
+    let d = words::wide(assigned(i));
+    let mut n = names;
+    if d < 8 {
+        n[8 * p + d] = ((32 + k) % 256) as u8;
+    }
+    n
+}
+
+// Enters e, of processor p, as the next action; the names are those after it.
+pub fn enter(c: Case, m: Machine, p: usize, e: Entry, names: [u8; 32]) -> Machine
+    requires { ⌜ Valid c m × (p < 4) × (m .issued < 48) × ValidEntry e × (length names ≡ 32) × (namesOf c names ≡ put (namesOf c (m .names)) p (renamedOf (namesOf c (m .names) p) (assigns (e .instr)) (given (m .issued)))) ⌝ }
     ensures { λ r. ⌜ Entered c m p e r ⌝ }
 {
     let k = m.issued;
     let acts = m.acts;
     let i = e.instr;
     let place = place_after(i, e.place);
-    let d = words::wide(assigned(i));
     let mut n = m;
     join_orders(&mut n.rows, acts, k, p, e, c.locs);
     n.acts[k] = e;
     n.issued = k + 1;
     n.places[p] = place;
-    if d < 8 {
-        n.names[8 * p + d] = ((32 + k) % 256) as u8;
-    }
+    n.names = names;
     n
 }
 
-// The machine after an issue of processor p that nothing refuses.
+// The machine after an issue of processor p that nothing refuses. The registers are bound before the one assigned is renamed.
 pub fn issue(c: Case, m: Machine, p: usize) -> Machine
     requires { ⌜ Valid c m × (stepCode c (shown c m) (issueStep p) ≡ 0) ⌝ }
     ensures { λ r. ⌜ (shown c r ≡ issuedOf c (shown c m) p) × Valid c r ⌝ }
@@ -288,6 +298,8 @@ pub fn issue(c: Case, m: Machine, p: usize) -> Machine
     let place = m.places[p];
     let s = c.code[12 * p + words::wide(place)];
     let i = s.instr;
-    let e = new_entry(c, &m.names, acts, issued, p, place, i);
-    enter(c, m, p, e)
+    let old = m.names;
+    let new = renamed(old, p, i, issued);
+    let e = new_entry(c, &old, acts, issued, p, place, i);
+    enter(c, m, p, e, new)
 }

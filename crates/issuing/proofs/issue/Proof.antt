@@ -1,9 +1,14 @@
-use mathlib.Core.Path.{_≡_, sym, refl, subst}
+use mathlib.Core.Path.{_≡_, _∙_, sym, ap, refl, subst}
 use Prim.Native.Nat.{ℕ}
 use native.Mathlib.Omega.{arith}
 use lib.ListN.{getD}
+use Rattle.words.specs.Small.{put}
+use Rattle.cases.specs.declared.Instr.{Instr}
 use Rattle.cases.specs.Case.{instrAt}
-use Rattle.machine.specs.Shown.{shown, shownEntry}
+use Rattle.rules.specs.Kinds.{assigns}
+use Rattle.rules.specs.State.{Action, given}
+use Rattle.rules.specs.Issue.{renamed as renamedOf}
+use Rattle.machine.specs.Shown.{shown, shownEntry, namesOf}
 use Rattle.machine.specs.Fit.{Fine}
 use Rattle.issuing.specs.Issued.{fresh}
 use Rattle.issuing.proofs.Entering.{issue-low, issue-room, issue-inside, issue-fine, issue-entry, issue-shows}
@@ -35,28 +40,36 @@ element-copy-out-s c =
     let b = c .before .before .before in
     omega (arith, issue-low (b .args .t1) (b .args .t2) (b .args .p) (b .pre .0) (b .pre .1), issue-inside (b .args .t1) (b .args .t2) (b .args .p) (b .pre .0) (b .pre .1), b .pre .0 .fit .counts (b .args .p), c .wide .ensures .0)
 
-new-entry-requires : tie.Need-new-entry-requires
-new-entry-requires c κs =
-    let b = c .before .before .before .before .before .before in
+renamed-requires : tie.Need-renamed-requires
+renamed-requires c κs =
+    let b = c .before .before .before .before .before in
     let a = b .args in
     let v = b .pre .0 in
-    (v .issued, v .acts-long, v .names-long, issue-low (a .t1) (a .t2) (a .p) v (b .pre .1), subst (λ (n : ℕ). Fine (instrAt (a .t1) (a .p) n)) (sym (c .before .before .before .wide .ensures .0)) (issue-fine (a .t1) (a .t2) (a .p) v (b .pre .1)))
+    (v .names-long, issue-low (a .t1) (a .t2) (a .p) v (b .pre .1), issue-room (a .t1) (a .t2) (a .p) v (b .pre .1), subst (λ (n : ℕ). Fine (instrAt (a .t1) (a .p) n)) (sym (c .before .before .wide .ensures .0)) (issue-fine (a .t1) (a .t2) (a .p) v (b .pre .1)))
 
-enter-requires : tie.Need-enter-requires
-enter-requires c κs =
+new-entry-requires : tie.Need-new-entry-requires
+new-entry-requires c κs =
     let b = c .before .before .before .before .before .before .before in
     let a = b .args in
     let v = b .pre .0 in
-    let w = c .before .before .before .before .wide .ensures .0 in
-    let h = subst (λ (n : ℕ). shownEntry (a .t1) (c .new-entry .result) ≡ fresh (shown (a .t1) (a .t2)) (a .p) (getD (a .t2 .places) (a .p) 0) (instrAt (a .t1) (a .p) n)) w (c .new-entry .ensures (shown (a .t1) (a .t2)) (record { count = refl; actions = refl }) refl) in
-    (v, issue-low (a .t1) (a .t2) (a .p) v (b .pre .1), issue-room (a .t1) (a .t2) (a .p) v (b .pre .1), issue-entry (a .t1) (a .t2) (a .p) v (b .pre .1) (c .new-entry .result) h)
+    (v .issued, v .acts-long, search needs, issue-low (a .t1) (a .t2) (a .p) v (b .pre .1), subst (λ (n : ℕ). Fine (instrAt (a .t1) (a .p) n)) (sym (c .before .before .before .before .wide .ensures .0)) (issue-fine (a .t1) (a .t2) (a .p) v (b .pre .1)))
 
-returns : tie.Need-returns
-returns c =
+enter-requires : tie.Need-enter-requires
+enter-requires c κs =
     let b = c .before .before .before .before .before .before .before .before in
     let a = b .args in
     let v = b .pre .0 in
     let w = c .before .before .before .before .before .wide .ensures .0 in
+    let h = subst (λ (n : ℕ). shownEntry (a .t1) (c .new-entry .result) ≡ fresh (shown (a .t1) (a .t2)) (a .p) (getD (a .t2 .places) (a .p) 0) (instrAt (a .t1) (a .p) n)) w (c .new-entry .ensures (shown (a .t1) (a .t2)) (record { count = refl; actions = refl }) refl) in
+    let n = ap (λ (i : Instr). put (namesOf (a .t1) (a .t2 .names)) (a .p) (renamedOf (namesOf (a .t1) (a .t2 .names) (a .p)) (assigns i) (given (a .t2 .issued)))) (ap (instrAt (a .t1) (a .p)) w ∙ sym (ap (λ (x : Action). x .instr) h)) in
+    (v, issue-low (a .t1) (a .t2) (a .p) v (b .pre .1), issue-room (a .t1) (a .t2) (a .p) v (b .pre .1), issue-entry (a .t1) (a .t2) (a .p) v (b .pre .1) (c .new-entry .result) h, c .before .before .renamed .ensures .0, c .before .before .renamed .ensures .1 (a .t1) ∙ n)
+
+returns : tie.Need-returns
+returns c =
+    let b = c .before .before .before .before .before .before .before .before .before in
+    let a = b .args in
+    let v = b .pre .0 in
+    let w = c .before .before .before .before .before .before .wide .ensures .0 in
     let h = subst (λ (n : ℕ). shownEntry (a .t1) (c .before .new-entry .result) ≡ fresh (shown (a .t1) (a .t2)) (a .p) (getD (a .t2 .places) (a .p) 0) (instrAt (a .t1) (a .p) n)) w (c .before .new-entry .ensures (shown (a .t1) (a .t2)) (record { count = refl; actions = refl }) refl) in
     issue-shows (a .t1) (a .t2) (a .p) v (b .pre .1) (c .before .new-entry .result) (c .enter .result) h (c .enter .ensures)
 
@@ -70,6 +83,7 @@ issue-spec =
     add-s
     mul-s-2
     element-copy-out-s
+    renamed-requires
     new-entry-requires
     enter-requires
     returns)

@@ -1,0 +1,57 @@
+use mathlib.Core.Path.{_≡_, _∙_}
+use native.Mathlib.Omega.{arith}
+use lib.ListN.{length-set}
+use Rattle.issuing.specs.Issued.{assignedBy}
+use Rattle.issuing.proofs.Entering.{names-some, names-none}
+use borrow.Author.Needs.{needs}
+use Rattle.issuing.proofs.renamed.Statement.{statement}
+use Rattle.issuing.proofs.renamed.Tie as tie
+
+assigned-requires : tie.Need-assigned-requires
+assigned-requires c κs = search needs
+
+wide-requires : tie.Need-wide-requires
+wide-requires c κs = search needs
+
+add-n : tie.Need-add-n
+add-n c = search needs
+
+cast-n : tie.Need-cast-n
+cast-n c = search needs
+
+mul-n : tie.Need-mul-n
+mul-n c = search needs
+
+add-n-2 : tie.Need-add-n-2
+add-n-2 c = search needs
+
+array-write-n : tie.Need-array-write-n
+array-write-n c = search needs
+
+returns : tie.Need-returns
+returns c =
+    let b = c .before .before .before in
+    let a = b .args in
+    let d : c .before .wide .result ≡ assignedBy (a .i) = c .before .wide .ensures .0 ∙ c .before .before .assigned .ensures in
+    (length-set (a .names) _ _ ∙ b .pre .0, λ k. names-some k (a .names) (a .p) (a .k) _ _ (a .i) (b .pre .0) (b .pre .1) (b .pre .3) d (c .if1 .taken) (omega (arith, b .pre .2)))
+
+returns-2 : tie.Need-returns-2
+returns-2 c =
+    let b = c .before .before .before in
+    let a = b .args in
+    let d : c .before .wide .result ≡ assignedBy (a .i) = c .before .wide .ensures .0 ∙ c .before .before .assigned .ensures in
+    (b .pre .0, λ k. names-none k (a .names) (a .p) (a .k) _ (a .i) (b .pre .3) d (c .if1 .left))
+
+pub renamed-spec : {M : Type 1} → statement M
+renamed-spec =
+    tie.close
+    (tie.spec
+    assigned-requires
+    wide-requires
+    add-n
+    cast-n
+    mul-n
+    add-n-2
+    array-write-n
+    returns
+    returns-2)
