@@ -14,17 +14,27 @@ pub struct Listing {
     pub cut: bool,
     /// Distinct states seen.
     pub states: usize,
-    /// Accepted schedules of at most the bound's steps: what a search without a memory walks through.
+    /// Accepted schedules of at most the bound's steps: what a search without a memory walks through. A
+    /// number that no `u128` holds is given as the greatest that one does.
     pub schedules: u128,
 }
 
-/// Lists the outcomes of a case. Level n holds the states after n steps, with the number of schedules to each.
+/// Lists the outcomes of a case.
 pub fn list(case: &Case, bound: u8) -> Listing {
+    list_within(case, bound, usize::MAX).expect("no case has so many states")
+}
+
+/// Lists the outcomes of a case unless it turns out to have more states than so many. Level n holds the
+/// states after n steps, with the number of schedules to each.
+pub fn list_within(case: &Case, bound: u8, most: usize) -> Option<Listing> {
     let mut listing = Listing::default();
     let mut level = HashMap::from([(State::start(case), 1)]);
     for left in (0..=bound).rev() {
         listing.states += level.len();
-        listing.schedules += level.values().sum::<u128>();
+        if listing.states > most {
+            return None;
+        }
+        listing.schedules = level.values().fold(listing.schedules, |sum, schedules| sum.saturating_add(*schedules));
         listing.cut = left == 0 && level.keys().any(|state| !state.finished(case));
         let finished = level.keys().filter(|state| state.finished(case));
         listing.outcomes.extend(finished.map(|state| state.ending(case).outcome));
@@ -32,14 +42,15 @@ pub fn list(case: &Case, bound: u8) -> Listing {
             level = following(case, &level);
         }
     }
-    listing
+    Some(listing)
 }
 
 fn following(case: &Case, level: &HashMap<State, u128>) -> HashMap<State, u128> {
     let mut next = HashMap::new();
     for (state, schedules) in level {
         for (_, after) in state.moves(case) {
-            *next.entry(after).or_insert(0) += schedules;
+            let reached: &mut u128 = next.entry(after).or_insert(0);
+            *reached = reached.saturating_add(*schedules);
         }
     }
     next
