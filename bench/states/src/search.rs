@@ -5,7 +5,7 @@ use std::collections::{BTreeSet, HashMap, HashSet};
 use model::{Case, Outcome, Step};
 
 use crate::replay::Run;
-use crate::state::{Move, State};
+use crate::state::{Id, Item, Move, State};
 
 /// All outcomes within a bound.
 #[derive(Clone, Debug, Default)]
@@ -56,15 +56,19 @@ fn following(case: &Case, level: &HashMap<State, u128>) -> HashMap<State, u128> 
     next
 }
 
-/// A schedule of at most `bound` steps that ends finished with a wanted outcome.
+/// A schedule of at most `bound` steps that ends finished with a wanted outcome. Where there is one in which
+/// no read takes an initial word while another write is visible, that one: it is the easier to follow.
 pub fn find(case: &Case, bound: u8, wanted: impl Fn(&Outcome) -> bool) -> Option<Vec<Step>> {
-    let mut search = Search { case, wanted, seen: HashSet::new(), path: vec![] };
-    search.reaches(State::start(case), bound).then(|| numbered(case, &search.path))
+    [true, false].into_iter().find_map(|fresh| {
+        let mut search = Search { case, wanted: &wanted, fresh, seen: HashSet::new(), path: vec![] };
+        search.reaches(State::start(case), bound).then(|| numbered(case, &search.path))
+    })
 }
 
 struct Search<'a, F> {
     case: &'a Case,
-    wanted: F,
+    wanted: &'a F,
+    fresh: bool,
     seen: HashSet<State>,
     path: Vec<Move>,
 }
@@ -78,7 +82,7 @@ impl<F: Fn(&Outcome) -> bool> Search<'_, F> {
         if left == 0 || !self.seen.insert(state.clone()) {
             return false;
         }
-        for (taken, next) in state.moves(self.case) {
+        for (taken, next) in self.moves(&state) {
             self.path.push(taken);
             if self.reaches(next, left - 1) {
                 return true;
@@ -86,6 +90,19 @@ impl<F: Fn(&Outcome) -> bool> Search<'_, F> {
             self.path.pop();
         }
         false
+    }
+
+    fn moves(&self, state: &State) -> Vec<(Move, State)> {
+        let mut moves = state.moves(self.case);
+        if self.fresh {
+            let later = |taken: &Move| match taken {
+                Move::Commit(id, Item::Of(_)) => Some(*id),
+                _ => None,
+            };
+            let readable: Vec<Id> = moves.iter().filter_map(|(taken, _)| later(taken)).collect();
+            moves.retain(|(taken, _)| !matches!(taken, Move::Commit(id, Item::Initial(_)) if readable.contains(id)));
+        }
+        moves
     }
 }
 
