@@ -68,6 +68,15 @@ fn racing(rng: &mut Rng) -> Instr {
     }
 }
 
+/// Whether some label does not lie past its own instruction.
+pub fn loops(case: &Case) -> bool {
+    let back = |(place, instr): (usize, &Instr)| match instr {
+        Instr::Branch { label, .. } | Instr::Goto { label } => usize::from(*label) <= place,
+        _ => false,
+    };
+    case.processors().iter().any(|processor| processor.program.iter().enumerate().any(back))
+}
+
 /// A case for replaying: long programs, loops and locks.
 pub fn to_replay(rng: &mut Rng) -> Case {
     if rng.once_in(3) {

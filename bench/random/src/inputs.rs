@@ -1,6 +1,6 @@
 //! Random inputs of the two calls: block, schedule or bound, and a buffer's length.
 
-use model::{block, schedule, Case, Step, ENDING, RECORD, STEPS};
+use model::{block, schedule, Case, Step, ACTIONS, ENDING, RECORD, STEPS};
 use states::Run;
 
 use crate::{cases, Rng, Tally};
@@ -40,7 +40,8 @@ impl Inputs {
             let case = cases::to_list(&mut self.rng);
             let bound = self.bound(&case);
             let Some(listing) = states::list_within(&case, bound, STATES) else { continue };
-            if listing.schedules <= most && (listing.outcomes.len() >= 2 || self.rng.once_in(8)) {
+            let telling = listing.outcomes.len() >= 2 || listing.cut && usize::from(bound) > ACTIONS;
+            if listing.schedules <= most && (telling || self.rng.once_in(8)) {
                 let room = self.records_room(listing.outcomes.len());
                 return self.spoilt_list(ListInput { block: case.block().to_vec(), bound: bound.into(), room });
             }
@@ -52,10 +53,11 @@ impl Inputs {
         ListInput { room, ..self.to_list(most) }
     }
 
-    /// Mostly the steps of one pass over every program, now and then a little less or more, or any number.
+    /// Mostly the steps of one pass over every program, now and then a little less or more; for a case with
+    /// a loop often any number.
     fn bound(&mut self, case: &Case) -> u8 {
-        if self.rng.once_in(12) {
-            return self.rng.below(97) as u8;
+        if self.rng.once_in(if cases::loops(case) { 2 } else { 16 }) {
+            return self.rng.below(STEPS + 1) as u8;
         }
         let instructions: usize = case.processors().iter().map(|processor| processor.program.len()).sum();
         let more = self.rng.pick(&[0, 0, 0, 0, 1, 2]);

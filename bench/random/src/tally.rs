@@ -14,7 +14,8 @@ pub struct Tally {
     several: u32,
     most: u32,
     cut: u32,
-    over_48: u32,
+    /// Cut lists whose bound is over 48: runs of loops in which code 23 may arise.
+    long_lists: u32,
     /// How many replays ended with each code.
     replays: BTreeMap<u32, u32>,
     long: u32,
@@ -31,7 +32,7 @@ impl Tally {
         self.several += u32::from(listed.count >= 2);
         self.most = self.most.max(listed.count);
         self.cut += u32::from(listed.cut);
-        self.over_48 += u32::from(listed.code == 0 && input.bound > 48);
+        self.long_lists += u32::from(listed.cut && input.bound > 48);
         self.records.insert(input.room);
     }
 
@@ -70,8 +71,8 @@ impl fmt::Display for Tally {
     fn fmt(&self, f: &mut fmt::Formatter<'_>) -> fmt::Result {
         let codes = |codes: &BTreeMap<u32, u32>| codes.iter().map(|(code, n)| format!(" {code}:{n}")).collect::<String>();
         let (lists, replays) = (self.lists.values().sum::<u32>(), self.replays.values().sum::<u32>());
-        let (several, most, cut, over_48) = (self.several, self.most, self.cut, self.over_48);
-        writeln!(f, "lists {lists}, two or more outcomes {several}, at most {most}, cut {cut}, bound over 48 {over_48}")?;
+        let (several, most, cut, long) = (self.several, self.most, self.cut, self.long_lists);
+        writeln!(f, "lists {lists}, two or more outcomes {several}, at most {most}, cut {cut}, cut over 48 steps {long}")?;
         writeln!(f, "  by code{}", codes(&self.lists))?;
         writeln!(f, "replays {replays}, 20 steps or more {}, 96 steps {}", self.long, self.whole)?;
         writeln!(f, "  by code{}", codes(&self.replays))?;

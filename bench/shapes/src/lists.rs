@@ -208,7 +208,8 @@ fn spinning() -> Vec<Shape> {
     vec![
         message.clone().with("spin-11", 11, true, none),
         message.clone().with("spin-12", 12, true, sees.clone()),
-        message.with("spin-18", 18, true, sees),
+        message.clone().with("spin-18", 18, true, sees.clone()),
+        message.with("spin-96", 96, true, sees),
         two.clone().with("two-spin-14", 14, true, both.clone()),
         two.clone().with("two-spin-20", 20, true, both.clone()),
         two.with("two-spin-53", 53, true, both),

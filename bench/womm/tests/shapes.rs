@@ -46,7 +46,7 @@ fn shapes_have_the_outcomes_expected() {
 #[test]
 fn shapes_have_the_bytes_of_states() {
     for shape in lists() {
-        for bound in [shape.bound.saturating_sub(1), shape.bound, shape.bound + 1] {
+        for bound in [shape.bound.saturating_sub(1), shape.bound, 96.min(shape.bound + 1)] {
             let listing = states::list(&shape.case, bound);
             let exact = listing.outcomes.len() * RECORD;
             for room in [ROOM * RECORD, exact + 1, exact, exact.saturating_sub(1), 0] {
@@ -100,6 +100,15 @@ fn h_as_document_01_says() {
         "p0 0 1 - - - - - - p1 0 1 1 1 - - - -",
     ];
     assert_eq!(lines, printed);
+}
+
+/// `goto 0` alone: issue and commit in turn go on for 96 steps and never finish.
+#[test]
+fn a_loop_is_cut_at_every_bound() {
+    let endless = shape("goto-0-1");
+    for bound in 0..=96 {
+        assert_eq!(listed(&endless, bound, 96), (Listed { code: 0, count: 0, cut: true }, vec![0; 96]), "{bound}");
+    }
 }
 
 #[test]
