@@ -44,7 +44,8 @@ pub struct Replay {
     pub ending: Ending,
 }
 
-/// Lists a case's outcomes, with room for so many.
+/// Lists a case's outcomes, with room for so many. A bound of 96 takes a little over a megabyte of stack; on
+/// a thread that has less, the process ends.
 pub fn outcomes(case: &Case, bound: u32, room: usize) -> Result<Listing, Refusal> {
     let mut records = vec![0; room * RECORD];
     let listed = Library.outcomes(&case.block(), bound, &mut records);
