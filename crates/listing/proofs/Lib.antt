@@ -1,0 +1,5 @@
+pub mod Ends
+pub mod Opened
+pub mod Loop
+pub mod Whole
+pub mod Exact
