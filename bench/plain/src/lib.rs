@@ -74,7 +74,7 @@ impl Replayer for Plain {
             Ok(case) => case,
             Err(refusal) => return refused(refusal),
         };
-        if schedule.len() % 4 != 0 || schedule.len() / 4 > STEPS {
+        if !schedule.len().is_multiple_of(4) || schedule.len() / 4 > STEPS {
             return refused(Refusal::ScheduleLength);
         }
         if result.len() != ENDING {

@@ -261,9 +261,9 @@ impl<'a> Machine<'a> {
         let releases: Vec<usize> = (0..self.actions.len()).filter(|&r| is_release(&self.actions[r])).collect();
         for before in &mut self.before {
             let all = releases.iter().fold(0, |all, r| all | before[LOCATIONS + r] | 1 << (LOCATIONS + r));
-            for item in LOCATIONS..before.len() {
-                if item == acquire || before[item] >> acquire & 1 == 1 {
-                    before[item] |= all;
+            for (item, before) in before.iter_mut().enumerate() {
+                if item == acquire || *before >> acquire & 1 == 1 {
+                    *before |= all;
                 }
             }
         }

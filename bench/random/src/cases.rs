@@ -12,6 +12,9 @@ const VALUES: [u16; 8] = [0, 1, 2, 3, 7, 255, 256, 65_535];
 
 /// A case for listing: few instructions, mostly races.
 pub fn to_list(rng: &mut Rng) -> Case {
+    if rng.once_in(12) {
+        return two_sections(rng);
+    }
     let processors = rng.pick(&[1, 2, 2, 2, 2, 3]);
     let locations = rng.pick(&[1, 2, 2, 3]);
     let mut case = started(rng, processors, locations);
@@ -28,6 +31,15 @@ pub fn to_list(rng: &mut Rng) -> Case {
     case.build().expect("a sound case")
 }
 
+/// A critical section on each of two processors.
+fn two_sections(rng: &mut Rng) -> Case {
+    let mut case = started(rng, 2, 2);
+    for p in 0..2 {
+        case = case.preset(p, 7, p as u16 + 5).program(p, &section(rng, 0));
+    }
+    case.build().expect("a sound case")
+}
+
 /// A read or write of one of two locations; register 7 holds a value of the processor's own.
 fn racing(rng: &mut Rng) -> Instr {
     let address = rng.pick(&[0, 0, 1]);
@@ -38,8 +50,11 @@ fn racing(rng: &mut Rng) -> Instr {
     }
 }
 
-/// A case for replaying: long programs and loops.
+/// A case for replaying: long programs, loops and locks.
 pub fn to_replay(rng: &mut Rng) -> Case {
+    if rng.once_in(3) {
+        return locked(rng);
+    }
     let processors = 1 + rng.below(4);
     let locations = rng.pick(&[1, 2, 2, 3, 8]);
     let mut case = started(rng, processors, locations);
@@ -53,6 +68,40 @@ pub fn to_replay(rng: &mut Rng) -> Case {
         case = case.program(p, &program);
     }
     case.build().expect("a sound case")
+}
+
+/// A case of critical sections around races, over and over: here the orders grow across processors.
+fn locked(rng: &mut Rng) -> Case {
+    let processors = 2 + rng.below(2);
+    let locations = rng.pick(&[1, 2, 2]);
+    let mut case = started(rng, processors, locations);
+    for p in 0..processors {
+        let mut program = vec![];
+        while program.len() < 6 {
+            program.extend(section(rng, program.len() as u16));
+        }
+        program.push(goto(0));
+        case = case.preset(p, 7, p as u16 + 5).program(p, &program);
+    }
+    case.build().expect("a sound case")
+}
+
+/// An acquire, one to three instructions and a release, with now and then a second acquire.
+fn section(rng: &mut Rng, from: u16) -> Vec<Instr> {
+    let lock = rng.pick(&[0, 0, 0, 1]);
+    let mut section = vec![acquire(lock)];
+    for _ in 0..1 + rng.below(3) {
+        let next = from + section.len() as u16 + 1;
+        section.push(match rng.below(10) {
+            0 | 1 => goto(next),
+            2 => branch(rng.pick(&GIVEN), next),
+            3 => acquire(lock),
+            4 => set(rng.pick(&ASSIGNED), next),
+            _ => racing(rng),
+        });
+    }
+    section.push(release(lock));
+    section
 }
 
 /// Presets and memory. Register 4 is now and then no location's number.

@@ -69,7 +69,7 @@ pub fn run(reference: &dyn Both, other: &dyn Both) -> ExitCode {
     let plan = Plan {
         seed: number(0, 1),
         lists: number(1, 500) as u32,
-        replays: number(2, 5_000) as u32,
+        replays: number(2, 10_000) as u32,
         schedules: number(3, 20_000).into(),
     };
     match compare(plan, reference, other) {

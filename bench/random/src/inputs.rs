@@ -106,9 +106,13 @@ impl Inputs {
         steps
     }
 
-    /// Some steps that are refused now, with their codes.
+    /// Some steps that are refused now, with their codes: any steps, and accepted ones with another source.
     fn refused_steps(&mut self, case: &Case, run: &Run) -> Vec<(u32, [u8; 4])> {
-        let tried: Vec<[u8; 4]> = (0..60).map(|_| self.any_step(case, run)).collect();
+        let mut tried: Vec<[u8; 4]> = (0..60).map(|_| self.any_step(case, run)).collect();
+        for step in run.accepted() {
+            let [kind, processor, action, _] = step.bytes();
+            tried.push([kind, processor, action, self.rng.below(run.actions() + 9) as u8]);
+        }
         tried.into_iter().filter_map(|step| run.clone().take(step).err().map(|refusal| (refusal.code(), step))).collect()
     }
 

@@ -2,7 +2,7 @@
 
 use random::{compare, Plan};
 
-const PLAN: Plan = Plan { seed: 1, lists: 500, replays: 5_000, schedules: 20_000 };
+const PLAN: Plan = Plan { seed: 1, lists: 500, replays: 10_000, schedules: 20_000 };
 
 #[test]
 fn states_and_plain_agree_on_deep_inputs() {

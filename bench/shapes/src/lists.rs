@@ -69,7 +69,7 @@ fn scope() -> Vec<Shape> {
 }
 
 /// H, which is MP: processor 0 writes x, then y; processor 1 reads y, then x.
-fn message() -> CaseBuilder {
+pub(crate) fn message() -> CaseBuilder {
     usual(2, &[&[write(0, 1), write(1, 1)], &[read(2, 1), read(3, 0)]])
 }
 

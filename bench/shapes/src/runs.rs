@@ -120,7 +120,7 @@ fn hidden() -> Vec<Run> {
 }
 
 /// Refusals before the first step, in the order they are tried.
-fn refused_inputs() -> Vec<Run> {
+pub(crate) fn refused_inputs() -> Vec<Run> {
     let sound = alone(&[goto(1)]).build().expect("a sound case").block();
     let given = |name, block: &[u8], schedule: Vec<u8>, code| Run { name, block: block.to_vec(), schedule, code, steps: 0 };
     let changed = |name, at: usize, byte: u8, code| {

@@ -18,9 +18,15 @@ pub fn print_times(name: &str, lister: &dyn Lister) {
     }
 }
 
+/// The time of one listing: the best of five, or of one if that took over a second.
 fn milliseconds(lister: &dyn Lister, block: &[u8], bound: u8) -> f64 {
     let mut records = vec![0; 682 * RECORD];
-    let start = Instant::now();
-    lister.outcomes(block, bound.into(), &mut records);
-    start.elapsed().as_secs_f64() * 1e3
+    let mut once = || {
+        let start = Instant::now();
+        lister.outcomes(block, bound.into(), &mut records);
+        start.elapsed().as_secs_f64() * 1e3
+    };
+    let first = once();
+    let more = if first > 1e3 { 0 } else { 4 };
+    (0..more).map(|_| once()).fold(first, f64::min)
 }

@@ -1,5 +1,8 @@
 //! The shapes' numbers, by both enumerators.
 
+use std::fs;
+use std::path::Path;
+
 use model::{Lister, Replayed, Replayer, RECORD};
 use plain::Plain;
 use shapes::{lists, runs, Shape};
@@ -112,5 +115,25 @@ fn what_a_refusal_leaves() {
         let mut result = vec![7; length];
         assert_eq!(States.replay(&run.block, &run.schedule, &mut result), Replayed { code: 9, steps: 0 });
         assert_eq!(result, vec![0; length]);
+    }
+}
+
+/// The files in `inputs/` are those that `write-inputs` makes, and no others.
+#[test]
+fn stored_inputs_are_up_to_date() {
+    let dir = Path::new(env!("CARGO_MANIFEST_DIR")).join("../inputs");
+    let made = shapes::stored();
+    for (path, bytes) in &made {
+        assert_eq!(&fs::read(dir.join(path)).unwrap(), bytes, "{path}");
+    }
+    let held = |folder: &str| fs::read_dir(dir.join(folder)).unwrap().count();
+    assert_eq!(held("replay") + held("outcomes"), made.len());
+}
+
+#[test]
+fn replay_prints_what_is_expected() {
+    for run in runs() {
+        let expected = format!("code {} after {} steps\n", run.code, run.steps);
+        assert_eq!(shapes::replay_prints(&[run.block, run.schedule].concat()), expected, "{}", run.name);
     }
 }

@@ -58,7 +58,7 @@ impl Replayer for States {
 
 fn replayable(block: &[u8], schedule: &[u8], room: usize) -> Result<model::Case, Refusal> {
     let case = block::read(block)?;
-    if schedule.len() % 4 != 0 || schedule.len() > 4 * STEPS {
+    if !schedule.len().is_multiple_of(4) || schedule.len() > 4 * STEPS {
         return Err(Refusal::ScheduleLength);
     }
     if room != ENDING {

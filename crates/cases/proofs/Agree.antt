@@ -1,17 +1,16 @@
 -- Codes 3 to 7 and the check look at bytes 0 to 509 alone. Assumes nothing.
-use mathlib.Core.Path.{_≡_, refl, ap, sym, _∙_}
+use mathlib.Core.Path.{_≡_, refl, ap}
 use mathlib.Core.Logic.{⊎-elim}
-use mathlib.Core.Bool.{Bool, true, false, _&&_, cond}
+use mathlib.Core.Bool.{true}
 use mathlib.Core.List.{List}
-use Prim.Native.Nat.{ℕ, zero, suc, _+_, _*_, _-_, _/_, _%_, _<_, _≤_}
+use Prim.Native.Nat.{ℕ, zero, suc, _+_, _-_, _/_, _%_, _<_, _≤_}
 use native.Mathlib.Omega.{arith}
 use lib.Dec.{ltb, leb}
 use lib.ListN.{getD}
 use borrow.Author.Tests.{ltb-true}
-use Rattle.words.specs.Small.{someBelow}
 use Rattle.words.specs.Refusals.{firstOf}
 use Rattle.words.proofs.Bools.{decide, and-both, below-same}
-use Rattle.cases.specs.Block.{within, procAt, numberAt, byteAt, byte, word, weighted, check, used, bad3, bad4, zero5, bad5, badByte, bad6, bad7, faults}
+use Rattle.cases.specs.Block.{within, weighted, check, bad3, bad4, zero5, bad5, badByte, bad6, bad7, faults}
 
 module _ (s t : List ℕ) (same : (i : ℕ) → i < 510 → getD s i 0 ≡ getD t i 0) where
   bad3-same : (i : ℕ) → i < 510 → bad3 s i ≡ bad3 t i

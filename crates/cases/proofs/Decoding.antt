@@ -1,21 +1,17 @@
 -- The case that a block holds, as the code reads it. Assumes nothing.
 use mathlib.Core.Path.{_≡_, refl, ap, sym, _∙_}
-use mathlib.Core.Bool.{not}
-use mathlib.Core.List.{List, [], _∷_}
+use mathlib.Core.List.{List}
 use Prim.Native.Nat.{ℕ, zero, suc, _+_, _*_, _<_, _≤_}
-use native.Mathlib.Nat.{mul-le-mul, add-zero}
+use native.Mathlib.Nat.{mul-le-mul}
 use native.Mathlib.Numerals.{add-one}
 use native.Mathlib.Omega.{arith}
-use lib.Dec.{eqb}
-use lib.ListN.{length, getD, List·getD-eq-default}
+use lib.ListN.{length}
 use borrow.Author.Tests.{eq-eqb, ne-eqb}
 use Rattle.words.specs.Small.{each}
 use Rattle.words.specs.Refusals.{firstOf}
-use Rattle.words.proofs.Bools.{cond-true, cond-false}
-use Rattle.words.proofs.First.{First, hit, miss, first, not-yes, not-no}
+use Rattle.words.proofs.First.{hit, miss, first, not-yes, not-no}
 use Rattle.cases.specs.declared.Fault.{Fault}
 use Rattle.cases.specs.declared.Case.{Case}
-use Rattle.cases.specs.declared.CaseRead.{CaseRead}
 use Rattle.cases.specs.declared.Instr.{Instr}
 use Rattle.cases.specs.declared.Slot.{Slot}
 use Rattle.cases.specs.declared.Instr.the-variants.{Empty}

@@ -3,3 +3,8 @@ pub mod Fields
 pub mod Agree
 pub mod Puts
 pub mod Decoding
+pub mod Slots
+pub mod Ranges
+pub mod Held
+pub mod Kept
+pub mod RoundTrip

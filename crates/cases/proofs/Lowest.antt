@@ -11,7 +11,6 @@ use Rattle.words.specs.Small.{someBelow}
 use Rattle.words.specs.Refusals.{firstOf}
 use Rattle.words.proofs.Bools.{decide, below-cases, below-make}
 use Rattle.words.proofs.First.{hit, miss, none, first}
-use Rattle.cases.specs.declared.Fault.{Fault}
 use Rattle.cases.specs.Block.{bad3, bad4, bad5, bad6, bad7, faults}
 use Rattle.cases.specs.Faults.{lowest, bad, faultOf}
 

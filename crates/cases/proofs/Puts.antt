@@ -1,13 +1,13 @@
 -- Buffers that are filled from the front on. Assumes nothing.
-use mathlib.Core.Path.{_≡_, refl, ap, sym, _∙_, subst}
+use mathlib.Core.Path.{_≡_, refl, ap, sym, _∙_}
 use mathlib.Core.Bool.{not}
 use mathlib.Core.List.{List, [], _∷_, _++_, map, append-assoc, append-nil}
-use Prim.Native.Nat.{ℕ, zero, suc, _+_, _*_, _-_, _<_, _≤_}
+use Prim.Native.Nat.{ℕ, suc, _+_, _*_, _-_, _<_, _≤_}
 use native.Mathlib.Nat.{add-zero, mul-suc, mul-zero}
 use native.Mathlib.Numerals.{add-one}
 use native.Mathlib.Omega.{arith}
 use lib.Dec.{eqb}
-use lib.ListN.{length, getD, take, set, replicate, length-set, length-map, replicate-append-replicate}
+use lib.ListN.{length, getD, take, set, replicate, length-map, replicate-append-replicate}
 use lib.Seq.{take-suc-set, take-suc, take-length, length-take-le, take-append-add, take-all, getD-take}
 use borrow.Author.Tests.{eq-eqb, ne-eqb}
 use Rattle.words.specs.Small.{concatMap}

@@ -1,6 +1,6 @@
 -- The case block: which bytes are bad for which code, the case it holds, the block that holds a case. Assumes nothing.
 use mathlib.Core.Path.{_≡_}
-use mathlib.Core.Bool.{Bool, true, false, _&&_, _||_, not, cond}
+use mathlib.Core.Bool.{Bool, _&&_, _||_, not, cond}
 use mathlib.Core.List.{List, [], _∷_, _++_}
 use Prim.Native.Nat.{ℕ, zero, suc, _+_, _*_, _-_, _/_, _%_}
 use lib.Dec.{eqb, ltb, leb}

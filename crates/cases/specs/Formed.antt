@@ -9,10 +9,11 @@ use Rattle.cases.specs.declared.Instr.{Instr}
 use Rattle.cases.specs.declared.Instr.the-variants.{Empty, Read, Write, Local, Branch, Goto, Acquire, Release}
 use Rattle.cases.specs.declared.Case.{Case}
 use Rattle.cases.specs.Case.{slotIn}
+use Rattle.cases.specs.Block.{readOf}
 
 -- Every number of the list is below n.
-abbrev pub Below : ℕ → List ℕ → Type 0
-Below n l = (i : ℕ) → getD l i 0 < n
+pub record Below (n : ℕ) (l : List ℕ) : Type 0 where
+  pub each : (i : ℕ) → getD l i 0 < n
 
 -- Every number of the list is a byte.
 abbrev pub Bytes : List ℕ → Type 0
@@ -46,3 +47,9 @@ pub record Formed (c : Case) : Type 0 where
   pub presets : (length (c .presets) ≡ 32) × Below 65536 (c .presets)
   pub memory : (length (c .memory) ≡ 8) × Below 65536 (c .memory)
   pub code : (length (c .code) ≡ 48) × ((n : ℕ) → InstrFits (slotIn c n))
+
+-- Some block holds the case: reading it gives code 0 and the case.
+pub record Held (c : Case) : Type 0 where
+  pub block : List ℕ
+  pub bytes : Bytes block
+  pub read : readOf block ≡ record { code = 0; case = c }

@@ -5,7 +5,7 @@ use crate::Instr;
 use crate::Slot;
 use crate::bytes::check;
 ghost use mathlib.Core.Path.{_≡_};
-ghost use mathlib.Core.List.{List, _++_};
+ghost use mathlib.Core.List.{_++_};
 ghost use Prim.Native.Nat.{_+_, _*_, _-_, _≤_, _<_};
 ghost use lib.ListN.{length, take, replicate};
 ghost use Rattle.words.specs.Small.{concatMap};

@@ -24,7 +24,7 @@ pub below-next : (n : ℕ) (f : ℕ → Bool) (b h : Bool) → b ≡ someBelow n
 unfolding someBelow
 below-next n f b h hb hh = rw (add-one, hb, hh)
 
-ltb-next : (e n : ℕ) → (e ≡ n → ⊥) → ltb e (n + 1) ≡ ltb e n
+pub ltb-next : (e n : ℕ) → (e ≡ n → ⊥) → ltb e (n + 1) ≡ ltb e n
 ltb-next e n h = ⊎-elim (λ k. lt-ltb e (n + 1) (omega (arith, ltb-true e n k)) ∙ sym k) (λ k. le-ltb e (n + 1) (omega (arith, ltb-false e n k)) ∙ sym k) (decide (ltb e n))
 
 module _ (n : ℕ) (P : ℕ → Bool) (x : ℕ) (set : SetOf n P x) where

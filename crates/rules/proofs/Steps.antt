@@ -9,7 +9,7 @@ use borrow.Author.Tests.{leb-false}
 use Rattle.words.specs.Small.{put}
 use Rattle.words.proofs.Bools.{put-same, put-other}
 use Rattle.cases.specs.declared.Case.{Case}
-use Rattle.runs.specs.Outcome.{Leads}
+use Rattle.runs.specs.Outcome.{Leads, Outcome, Cut}
 use Rattle.runs.proofs.Always.{counted-after}
 use Rattle.rules.specs.State.{State, Action, initial}
 use Rattle.rules.specs.Issue.{newAction, issued}
@@ -99,3 +99,10 @@ pub at-most-96 : (c : Case) (ts : List Step) (e : State) → Leads (womm c) (ini
 at-most-96 c ts e l =
     let r = counted-after (womm c) Spent (spent-step c) (spent-initial c) ts e l in
     omega (arith, r .few, r .steps, spent-most (e .actions) (e .count))
+
+-- so no outcome needs a larger bound, and no larger bound is cut
+pub outcome-within-96 : (c : Case) (n : ℕ) (r : List ℕ) → Outcome (womm c) n r → Outcome (womm c) 96 r
+outcome-within-96 c n r o = record { schedule = o .schedule; end = o .end; short = at-most-96 c (o .schedule) (o .end) (o .leads); leads = o .leads; done = o .done; gives = o .gives }
+
+pub uncut-over-96 : (c : Case) (n : ℕ) → 96 < n → Cut (womm c) n → ⊥
+uncut-over-96 c n h k = omega (arith, at-most-96 c (k .schedule) (k .end) (k .leads), k .exact)

@@ -1,15 +1,10 @@
 -- What a row of a table of small cases says of the rules. Assumes nothing.
 use mathlib.Core.Path.{_≡_}
 use mathlib.Core.Bool.{Bool, true}
-use mathlib.Core.List.{List, [], _∷_, _++_, map}
+use mathlib.Core.List.{List, [], _∷_}
 use mathlib.Core.Logic.{_↔_}
-use mathlib.Core.Option.{Option, none, some}
-use Prim.Native.Nat.{ℕ, _-_}
-use lib.ListN.{length, replicate}
-use Rattle.words.specs.Small.{orZero, concatMap}
-use Rattle.cases.specs.declared.Instr.{Instr}
-use Rattle.cases.specs.declared.Instr.the-variants.{Empty}
-use Rattle.cases.specs.declared.Slot.{Slot}
+use mathlib.Core.Option.{Option}
+use Prim.Native.Nat.{ℕ}
 use Rattle.cases.specs.declared.Case.{Case}
 use Rattle.cases.specs.Block.{Sound}
 use Rattle.runs.specs.Replay.{replay}
@@ -17,9 +12,10 @@ use Rattle.runs.specs.Outcome.{Outcome, Cut}
 use Rattle.runs.specs.Listing.{RecordsOf}
 use Rattle.rules.specs.State.{State, initial}
 use Rattle.rules.specs.Step.{Step}
-use Rattle.rules.specs.Result.{finished, registerOf, registerBytes}
+use Rattle.rules.specs.Result.{finished, registerOf}
 use Rattle.rules.specs.Womm.{womm}
 
+-- A row.
 pub data Claim : Type 0 where
   -- the case, the bound, the records and the cut mark
   lists : Case → ℕ → List (List ℕ) → Bool → Claim
@@ -64,53 +60,3 @@ Holds k = Sound (caseIn k) × Says k
 abbrev pub Every : {A : Type 0} → (A → Type 0) → List A → Type 0
 Every P [] = Unit {0}
 Every P (x ∷ xs) = P x × Every P xs
-
--- A processor: what register 4 is preset to, and its instructions.
-pub record Program : Type 0 where
-  pub fourth : Option ℕ
-  pub instrs : List Instr
-
--- 'Registers 0 and 1 of each processor are preset to 0 and 1; where a shape needs another address or value, register 4 is preset to it.'
-abbrev pub maskOf : Option ℕ → ℕ
-maskOf none = 3
-maskOf (some v) = 19
-
-abbrev pub presetsOf : Option ℕ → List ℕ
-presetsOf v = 0 ∷ 1 ∷ 0 ∷ 0 ∷ orZero v ∷ 0 ∷ 0 ∷ 0 ∷ []
-
-abbrev pub slotOf : Instr → Slot
-slotOf i = record { instr = i }
-
--- Twelve slots that begin with these instructions.
-abbrev pub slotsOf : List Instr → List Slot
-slotsOf is = map slotOf is ++ replicate (12 - length is) (slotOf Empty)
-
--- What each of the four processors has, and what an absent one has.
-abbrev pub four : {A : Type 0} → A → (Program → A) → List Program → List A
-four absent f ps = map f ps ++ replicate (4 - length ps) absent
-
--- The case of these processors and m locations; memory starts at 0.
-abbrev pub shape : ℕ → List Program → Case
-shape m ps =
-    record {
-      procs = length ps;
-      locs = m;
-      bound = 0;
-      counts = four 0 (λ q. length (q .instrs)) ps;
-      masks = four 0 (λ q. maskOf (q .fourth)) ps;
-      presets = concatMap (λ l. l) (four (replicate 8 0) (λ q. presetsOf (q .fourth)) ps);
-      memory = replicate 8 0;
-      code = concatMap (λ l. l) (four (slotsOf []) (λ q. slotsOf (q .instrs)) ps);
-    }
-
--- The same of processors with no register 4.
-abbrev pub plain : ℕ → List (List Instr) → Case
-plain m is = shape m (map (λ i. record { fourth = none; instrs = i }) is)
-
--- One processor, one location.
-abbrev pub alone : List Instr → Case
-alone is = plain 1 (is ∷ [])
-
--- The record of one processor whose register 2 is x and whose register 4 is v.
-abbrev pub left : Option ℕ → Option ℕ → List ℕ
-left x v = concatMap registerBytes (some 0 ∷ some 1 ∷ x ∷ none ∷ v ∷ []) ++ replicate 81 0

@@ -6,15 +6,16 @@ use Rattle.cases.specs.declared.Instr.{Instr}
 use Rattle.cases.specs.declared.Instr.the-variants.{Read, Write, Branch, Goto, Acquire, Release}
 use Rattle.cases.specs.declared.Case.{Case}
 use Rattle.rules.specs.Step.{Step, issue, commit, stepOf}
-use Rattle.rules.specs.Claims.{Claim, replays, plain, alone}
+use Rattle.rules.specs.Building.{plain, alone}
+use Rattle.rules.specs.Claims.{Claim, replays}
 
 -- Processor 0 can issue for ever, processor 1 has these instructions.
 abbrev pub beside : List Instr → Case
 beside is = plain 1 ((Goto 0 ∷ []) ∷ is ∷ [])
 
 -- n issues of processor 0, then one of processor 1.
-abbrev pub after : ℕ → List Step
-after n = replicate n (issue 0) ++ (issue 1 ∷ [])
+abbrev pub following : ℕ → List Step
+following n = replicate n (issue 0) ++ (issue 1 ∷ [])
 
 -- Two issues of one processor, then the commit of its second action from item e.
 abbrev pub second : ℕ → List Step
@@ -34,13 +35,13 @@ formed =
 -- value not below M.' Register 3 is undefined, register 1 is M.
 abbrev pub issues : List Claim
 issues =
-    replays (beside (Branch 0 0 ∷ [])) (issue 1 ∷ after 0) 1 21
-    ∷ replays (beside (Branch 0 0 ∷ [])) (issue 1 ∷ after 47) 48 21
-    ∷ replays (beside []) (after 48) 48 22
-    ∷ replays (beside (Read 2 3 ∷ [])) (after 48) 48 23
-    ∷ replays (beside (Read 2 1 ∷ [])) (after 48) 48 23
-    ∷ replays (beside (Write 3 0 ∷ [])) (after 0) 0 24
-    ∷ replays (beside (Write 1 0 ∷ [])) (after 0) 0 25
+    replays (beside (Branch 0 0 ∷ [])) (issue 1 ∷ following 0) 1 21
+    ∷ replays (beside (Branch 0 0 ∷ [])) (issue 1 ∷ following 47) 48 21
+    ∷ replays (beside []) (following 48) 48 22
+    ∷ replays (beside (Read 2 3 ∷ [])) (following 48) 48 23
+    ∷ replays (beside (Read 2 1 ∷ [])) (following 48) 48 23
+    ∷ replays (beside (Write 3 0 ∷ [])) (following 0) 0 24
+    ∷ replays (beside (Write 1 0 ∷ [])) (following 0) 0 25
     ∷ []
 
 -- '26 no such action in this processor's queue; 27 byte 3 not zero and not a read; 28 held back by the table.'

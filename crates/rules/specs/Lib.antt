@@ -6,6 +6,7 @@ pub mod Commit
 pub mod Step
 pub mod Result
 pub mod Womm
+pub mod Building
 pub mod Claims
 pub mod Shapes
 pub mod Readings

@@ -6,7 +6,8 @@ use Rattle.cases.specs.declared.Case.{Case}
 use Rattle.cases.specs.declared.Instr.the-variants.{Read, Write, Local, Acquire, Release}
 use Rattle.cases.specs.declared.Expr.the-variants.{Constant, Sum}
 use Rattle.rules.specs.Step.{Step, issue, commit}
-use Rattle.rules.specs.Claims.{Claim, replays, leaves, orders, plain, alone}
+use Rattle.rules.specs.Building.{plain, alone}
+use Rattle.rules.specs.Claims.{Claim, replays, leaves, orders}
 
 -- Processor 0 writes 1 to x, processor 1 reads x.
 abbrev pub passed : Case

@@ -6,7 +6,8 @@ use lib.ListN.{replicate}
 use Rattle.cases.specs.declared.Instr.the-variants.{Read, Write, Local, Goto, Acquire, Release}
 use Rattle.cases.specs.declared.Expr.the-variants.{Sum, Difference}
 use Rattle.rules.specs.Step.{issue, commit}
-use Rattle.rules.specs.Claims.{Claim, lists, replays, finishes, shape, alone, left}
+use Rattle.rules.specs.Building.{shape, alone, left}
+use Rattle.rules.specs.Claims.{Claim, lists, replays, finishes}
 
 -- 'Write 1 to x, read x: only 1. Read x, write 1 to x: only 0 (both bound 4).'
 abbrev pub oneLocation : List Claim

@@ -72,4 +72,7 @@ module _ (c : Case) (s : State) (t : Commit) where
 
   -- what is no read names source 0
   pub source-zero : CanTake c s t → reading (kindOf (self s t)) ≡ false → t .source ≡ 0
-  source-zero T r = ⊎-elim (λ w. eqb-true (t .source) 0 w) (λ w. absurd (false≢true (sym (T .plain) ∙ and-make _ _ (ap not w) (ap not r)))) (decide (eqb (t .source) 0))
+  source-zero T r =
+      ⊎-elim (λ w. eqb-true (t .source) 0 w)
+      (λ w. absurd (false≢true (sym (T .plain) ∙ and-make _ _ (ap not w) (ap not r))))
+      (decide (eqb (t .source) 0))

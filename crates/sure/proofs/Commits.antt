@@ -5,7 +5,7 @@ use mathlib.Core.Bool.{Bool, true, false, not, cond, _&&_, false≢true}
 use mathlib.Core.Option.{Option, none, some}
 use Prim.Native.Nat.{ℕ, suc, _+_, _-_}
 use lib.Dec.{eqb, ltb}
-use borrow.Author.Tests.{eqb-true, ne-eqb}
+use borrow.Author.Tests.{ne-eqb}
 use Rattle.words.specs.Small.{someBelow, put, is}
 use Rattle.words.proofs.Bools.{put-swap, or-left, below-same, put-other, or-right, and-right, decide, or-none}
 use Rattle.cases.specs.declared.Instr.the-variants.{Empty, Read, Write, Local, Branch, Goto, Acquire, Release}
@@ -13,12 +13,12 @@ use Rattle.cases.specs.declared.Instr.{Instr}
 use Rattle.cases.specs.declared.Case.{Case}
 use Rattle.rules.specs.Kinds.{kind, syncs, reading, releasing, writing, acquiring, branching, labelOf}
 use Rattle.rules.specs.Commit.{barred, visible, committed, writes}
-use Rattle.rules.specs.State.{itemIs, kindOf, State, Action}
+use Rattle.rules.specs.State.{itemIs, kindOf, State, Action, standsAt}
 use Rattle.rules.specs.Order.{joinedIf, Order}
 use Rattle.rules.proofs.Closed.{Transitive}
 use Rattle.rules.proofs.Orders.{joinedIf-false, joinedIf-swap}
 use Rattle.rules.proofs.Accepted.{between, visible-make, Visible}
-use Rattle.sure.proofs.Kept.{Kept, kept-commit, waits-none, input-same, item-kept, carry, settled-same}
+use Rattle.sure.proofs.Kept.{committed-field, Kept, kept-commit, waits-none, input-same, item-kept, carry, settled-same}
 use Rattle.sure.proofs.Commit.{self, releases, committedBy, sees-take, Commit, input, settledBy, CanTake, resultBy, item}
 
 -- only an acquire and a release ask who holds a location
@@ -45,14 +45,17 @@ placesBy a p x f = cond (branching (kindOf a)) (put f p (some (cond (eqb x 0) (s
 abbrev pub holdersBy : Action → ℕ → ℕ → (ℕ → Option ℕ) → ℕ → Option ℕ
 holdersBy a p x f = cond (syncs (kindOf a)) (put f x (cond (acquiring (kindOf a)) (some p) none)) f
 
+-- the order of location l where item i of action a is put after the items P below n: at its commit, and at its issue
+abbrev pub acquired : Case → ℕ → Action → Order → ℕ → ℕ → (ℕ → Bool) → Order
+acquired c l a R i n P = joinedIf (ltb l (c .locs) && acquiring (kindOf a)) R i n P
+
+abbrev pub joins : Case → ℕ → Action → Order → ℕ → ℕ → (ℕ → Bool) → Order
+joins c l a R i n P = joinedIf (ltb l (c .locs) && standsAt l a) R i n P
+
 -- a test of items that the commit does not change
-pub item-test : (c : Case) (s : State) (t : Commit) (b : Bool) (f : Action → Bool) → f (settledBy c s t) ≡ f (self s t) → (e : ℕ) → itemIs b f (committedBy c s t) e ≡ itemIs b f s e
-unfolding committed
-item-test c s t b f h e = ap (λ (x : Bool). cond (ltb e 8) b x) (step (eqb (e - 8) (t .action)) refl)
-  where
-    step : (q : Bool) → eqb (e - 8) (t .action) ≡ q → f (cond q (settledBy c s t) (s .actions (e - 8))) ≡ f (s .actions (e - 8))
-    step true q = h ∙ ap (λ (k : ℕ). f (s .actions k)) (sym (eqb-true _ _ q))
-    step false q = refl
+pub item-test : (c : Case) (s : State) (t : Commit) (b : Bool) (f : Action → Bool) → f (settledBy c s t) ≡ f (self s t) → (e : ℕ)
+    → itemIs b f (committedBy c s t) e ≡ itemIs b f s e
+item-test c s t b f h e = ap (λ (x : Bool). cond (ltb e 8) b x) (committed-field c s t f h (e - 8))
 
 release-result : (c : Case) (s : State) (t : Commit) (i : Instr) → releasing (kind i) ≡ true → resultBy c s t i ≡ input s t 0
 release-result c s t Empty h = absurd (false≢true h)
@@ -64,7 +67,7 @@ release-result c s t (Goto l) h = absurd (false≢true h)
 release-result c s t (Acquire a) h = absurd (false≢true h)
 release-result c s t (Release a) h = refl
 
--- t and u, both accepted at s, touch no lock and no place counter in common
+-- t and u, both accepted at s, have no held location and no place counter in common
 pub record Apart (c : Case) (s : State) (t u : Commit) : Type 0 where
   pub differ : t .action ≡ u .action → ⊥
   pub locks : syncs (kindOf (self s t)) ≡ true → syncs (kindOf (self s u)) ≡ true → input s t 0 ≡ input s u 0 → ⊥
@@ -82,20 +85,26 @@ module _ (c : Case) (s : State) (t u : Commit) (T : CanTake c s t) (U : CanTake 
   unfolding committed
   holders-after e = step (syncs (kindOf (self s u))) refl
     where
-      step : (b : Bool) → syncs (kindOf (self s u)) ≡ b → cond b (put (s .holders) (input s u 0) (cond (acquiring (kindOf (self s u))) (some (u .proc)) none)) (s .holders) (input s t 0) ≡ s .holders (input s t 0)
+      step : (b : Bool) → syncs (kindOf (self s u)) ≡ b
+          → cond b (put (s .holders) (input s u 0) (cond (acquiring (kindOf (self s u))) (some (u .proc)) none)) (s .holders) (input s t 0) ≡ s .holders (input s t 0)
       step true q = put-other (s .holders) (input s u 0) (input s t 0) _ (A .locks e q)
       step false q = refl
 
   allowed-after : barred (t .proc) (kindOf (self s t)) (committedBy c s u .holders (input s t 0)) ≡ false
-  allowed-after = ⊎-elim (λ e. rw (holders-after e) (T .allowed)) (unbarred (t .proc) (kindOf (self s t)) (committedBy c s u .holders (input s t 0))) (decide (syncs (kindOf (self s t))))
+  allowed-after =
+      ⊎-elim (λ e. rw (holders-after e) (T .allowed))
+      (unbarred (t .proc) (kindOf (self s t)) (committedBy c s u .holders (input s t 0)))
+      (decide (syncs (kindOf (self s t))))
 
   writes-after : (l e : ℕ) → writes (committedBy c s u) l e ≡ writes s l e
   writes-after l e = item-test c s u (eqb e l) (λ a. writing (kindOf a) && eqb (a .loc) l) refl e
 
-  released-after : (m : ℕ) → (releasing (kindOf (self s u)) ≡ true → m ≡ input s u 0 → ⊥) → (e : ℕ) → releases (committedBy c s u) m e ≡ releases s m e
+  released-after : (m : ℕ) → (releasing (kindOf (self s u)) ≡ true → m ≡ input s u 0 → ⊥) → (e : ℕ)
+      → releases (committedBy c s u) m e ≡ releases s m e
   released-after m d e = item-test c s u false (λ a. releasing (kindOf a) && is m (a .result)) (step (decide (releasing (kindOf (self s u))))) e
     where
-      step : (releasing (kindOf (self s u)) ≡ true) ⊎ (releasing (kindOf (self s u)) ≡ false) → (releasing (kindOf (self s u)) && eqb (resultBy c s u (self s u .instr)) m) ≡ (releasing (kindOf (self s u)) && is m (self s u .result))
+      step : (releasing (kindOf (self s u)) ≡ true) ⊎ (releasing (kindOf (self s u)) ≡ false)
+          → (releasing (kindOf (self s u)) && eqb (resultBy c s u (self s u .instr)) m) ≡ (releasing (kindOf (self s u)) && is m (self s u .result))
       step (inl q) = rw (q, waits-none (u .proc) (self s u) (U .waits)) (ne-eqb _ m λ x. d q (sym x ∙ release-result c s u (self s u .instr) q))
       step (inr q) = rw q
 
@@ -112,7 +121,8 @@ module _ (c : Case) (s : State) (t u : Commit) (T : CanTake c s t) (U : CanTake 
     between-kept : (l i e w : ℕ) → between (committedBy c s u) l i e w ≡ between s l i e w
     between-kept l i e w = ap₂ (λ (b : Bool) (R : Order). b && (R e w && R w i)) (writes-after l w) (orders-kept l)
 
-    newest-kept : (l i e : ℕ) → someBelow (8 + s .count) (between s l i e) ≡ false → someBelow (8 + committedBy c s u .count) (between (committedBy c s u) l i e) ≡ false
+    newest-kept : (l i e : ℕ) → someBelow (8 + s .count) (between s l i e) ≡ false
+        → someBelow (8 + committedBy c s u .count) (between (committedBy c s u) l i e) ≡ false
     unfolding committed
     newest-kept l i e h = below-same (8 + s .count) (between (committedBy c s u) l i e) (between s l i e) (λ w z. between-kept l i e w) ∙ h
 
@@ -128,7 +138,8 @@ module _ (c : Case) (s : State) (t u : Commit) (T : CanTake c s t) (U : CanTake 
     pub can-after : CanTake c (committedBy c s u) t
     can-after = carry c s (committedBy c s u) t kept T allowed-after (sees (decide (reading (kindOf (self s t)))))
       where
-        sees : (reading (kindOf (self s t)) ≡ true) ⊎ (reading (kindOf (self s t)) ≡ false) → (reading (kindOf (self s t)) && not (visible c (committedBy c s u) (self s t .loc) (item t) (t .source))) ≡ false
+        sees : (reading (kindOf (self s t)) ≡ true) ⊎ (reading (kindOf (self s t)) ≡ false)
+            → (reading (kindOf (self s t)) && not (visible c (committedBy c s u) (self s t .loc) (item t) (t .source))) ≡ false
         sees (inl r) = rw (r, visible-make c (committedBy c s u) (self s t .loc) (item t) (t .source) (visible-kept _ _ _ (sees-take c s t T r))) refl
         sees (inr r) = rw r
 
@@ -162,30 +173,45 @@ module _ (c : Case) (s : State) (t u : Commit) (T : CanTake c s t) (U : CanTake 
       ∙ cond-put-swap _ _ (s .holders) (input s t 0) (input s u 0) _ _ (A .locks)
       ∙ sym (ap₂ (λ (a : Action) (x : ℕ). holdersBy a (u .proc) x (committedBy c s t .holders)) (L .same) (input-same c s (committedBy c s t) u L U 0))
 
-  same-orders : acquiring (kindOf (self s u)) ≡ false → (l : ℕ) → committedBy c (committedBy c s u) t .orders l ≡ committedBy c (committedBy c s t) u .orders l
+  same-orders : acquiring (kindOf (self s u)) ≡ false → (l : ℕ)
+      → committedBy c (committedBy c s u) t .orders l ≡ committedBy c (committedBy c s t) u .orders l
   unfolding committed
   same-orders plain l =
-      ap₂ (λ (a : Action) (x : ℕ). joinedIf (ltb l (c .locs) && acquiring (kindOf a)) (committedBy c s u .orders l) (item t) (8 + s .count) (releases (committedBy c s u) x)) (K .same) (input-same c s (committedBy c s u) t K T 0)
-      ∙ ap (λ (R : Order). joinedIf (ltb l (c .locs) && acquiring (kindOf (self s t))) R (item t) (8 + s .count) (releases (committedBy c s u) (input s t 0))) (orders-kept c s t u T U A plain l)
+      ap₂ (λ (a : Action) (x : ℕ). acquired c l a (committedBy c s u .orders l) (item t) (8 + s .count) (releases (committedBy c s u) x)) (K .same) (input-same c s (committedBy c s u) t K T 0)
+      ∙ ap
+      (λ (R : Order). acquired c l (self s t) R (item t) (8 + s .count) (releases (committedBy c s u) (input s t 0)))
+      (orders-kept c s t u T U A plain l)
       ∙ step (decide (acquiring (kindOf (self s t))))
       ∙ sym (joinedIf-false _ _ _ _ _ (and-right (ltb l (c .locs)) _ (ap (λ (a : Action). acquiring (kindOf a)) (L .same) ∙ plain)))
     where
       step : (acquiring (kindOf (self s t)) ≡ true) ⊎ (acquiring (kindOf (self s t)) ≡ false)
-          → joinedIf (ltb l (c .locs) && acquiring (kindOf (self s t))) (s .orders l) (item t) (8 + s .count) (releases (committedBy c s u) (input s t 0)) ≡ joinedIf (ltb l (c .locs) && acquiring (kindOf (self s t))) (s .orders l) (item t) (8 + s .count) (releases s (input s t 0))
-      step (inl q) = ap (joinedIf (ltb l (c .locs) && acquiring (kindOf (self s t))) (s .orders l) (item t) (8 + s .count)) (fun-ext (released-after c s t u T U A (input s t 0) (λ r e. A .locks (acquire-syncs (kindOf (self s t)) q) (release-syncs (kindOf (self s u)) r) e)))
+          → acquired c l (self s t) (s .orders l) (item t) (8 + s .count) (releases (committedBy c s u) (input s t 0)) ≡ acquired c l (self s t) (s .orders l) (item t) (8 + s .count) (releases s (input s t 0))
+      step (inl q) =
+          ap
+          (acquired c l (self s t) (s .orders l) (item t) (8 + s .count))
+          (fun-ext (released-after c s t u T U A (input s t 0) (λ r e. A .locks (acquire-syncs (kindOf (self s t)) q) (release-syncs (kindOf (self s u)) r) e)))
       step (inr q) = joinedIf-false _ _ _ _ _ (and-right (ltb l (c .locs)) _ q) ∙ sym (joinedIf-false _ _ _ _ _ (and-right (ltb l (c .locs)) _ q))
 
   -- two acquires
-  both-orders : ((l : ℕ) → Transitive (s .orders l)) → releasing (kindOf (self s t)) ≡ false → releasing (kindOf (self s u)) ≡ false → (l : ℕ) → committedBy c (committedBy c s u) t .orders l ≡ committedBy c (committedBy c s t) u .orders l
+  both-orders : ((l : ℕ) → Transitive (s .orders l)) → releasing (kindOf (self s t)) ≡ false → releasing (kindOf (self s u)) ≡ false → (l : ℕ)
+      → committedBy c (committedBy c s u) t .orders l ≡ committedBy c (committedBy c s t) u .orders l
   unfolding committed
   both-orders tr nt nu l =
-      ap₂ (λ (a : Action) (x : ℕ). joinedIf (ltb l (c .locs) && acquiring (kindOf a)) (committedBy c s u .orders l) (item t) (8 + s .count) (releases (committedBy c s u) x)) (K .same) (input-same c s (committedBy c s u) t K T 0)
-      ∙ ap (joinedIf (ltb l (c .locs) && acquiring (kindOf (self s t))) (committedBy c s u .orders l) (item t) (8 + s .count)) (fun-ext (released-after c s t u T U A (input s t 0) (λ r. absurd (false≢true (sym nu ∙ r)))))
-      ∙ joinedIf-swap (ltb l (c .locs) && acquiring (kindOf (self s u))) (ltb l (c .locs) && acquiring (kindOf (self s t))) (s .orders l) (item u) (8 + s .count) (releases s (input s u 0)) (item t) (8 + s .count) (releases s (input s t 0)) (tr l)
-      ∙ ap (joinedIf (ltb l (c .locs) && acquiring (kindOf (self s u))) (committedBy c s t .orders l) (item u) (8 + s .count)) (sym (fun-ext (released-after c s u t U T (turned c s t u A) (input s u 0) (λ r. absurd (false≢true (sym nt ∙ r))))))
-      ∙ sym (ap₂ (λ (a : Action) (x : ℕ). joinedIf (ltb l (c .locs) && acquiring (kindOf a)) (committedBy c s t .orders l) (item u) (8 + s .count) (releases (committedBy c s t) x)) (L .same) (input-same c s (committedBy c s t) u L U 0))
+      ap₂ (λ (a : Action) (x : ℕ). acquired c l a (committedBy c s u .orders l) (item t) (8 + s .count) (releases (committedBy c s u) x)) (K .same) (input-same c s (committedBy c s u) t K T 0)
+      ∙ ap
+      (acquired c l (self s t) (committedBy c s u .orders l) (item t) (8 + s .count))
+      (fun-ext (released-after c s t u T U A (input s t 0) (λ r. absurd (false≢true (sym nu ∙ r)))))
+      ∙ joinedIf-swap (ltb l (c .locs) && acquiring (kindOf (self s u))) (ltb l (c .locs) && acquiring (kindOf (self s t))) (s .orders l) (item u)
+      (8 + s .count) (releases s (input s u 0)) (item t) (8 + s .count)
+      (releases s (input s t 0)) (tr l)
+      ∙ ap
+      (acquired c l (self s u) (committedBy c s t .orders l) (item u) (8 + s .count))
+      (sym (fun-ext (released-after c s u t U T (turned c s t u A) (input s u 0) (λ r. absurd (false≢true (sym nt ∙ r))))))
+      ∙ sym
+      (ap₂ (λ (a : Action) (x : ℕ). acquired c l a (committedBy c s t .orders l) (item u) (8 + s .count) (releases (committedBy c s t) x)) (L .same) (input-same c s (committedBy c s t) u L U 0))
 
-  meet : ((l : ℕ) → committedBy c (committedBy c s u) t .orders l ≡ committedBy c (committedBy c s t) u .orders l) → committedBy c (committedBy c s u) t ≡ committedBy c (committedBy c s t) u
+  meet : ((l : ℕ) → committedBy c (committedBy c s u) t .orders l ≡ committedBy c (committedBy c s t) u .orders l)
+      → committedBy c (committedBy c s u) t ≡ committedBy c (committedBy c s t) u
   unfolding committed
   meet orders = λ i. record {
     count = s .count;
@@ -199,5 +225,6 @@ module _ (c : Case) (s : State) (t u : Commit) (T : CanTake c s t) (U : CanTake 
   pub commits-meet : acquiring (kindOf (self s u)) ≡ false → committedBy c (committedBy c s u) t ≡ committedBy c (committedBy c s t) u
   commits-meet plain = meet (same-orders plain)
 
-  pub acquires-meet : ((l : ℕ) → Transitive (s .orders l)) → releasing (kindOf (self s t)) ≡ false → releasing (kindOf (self s u)) ≡ false → committedBy c (committedBy c s u) t ≡ committedBy c (committedBy c s t) u
+  pub acquires-meet : ((l : ℕ) → Transitive (s .orders l)) → releasing (kindOf (self s t)) ≡ false → releasing (kindOf (self s u)) ≡ false
+      → committedBy c (committedBy c s u) t ≡ committedBy c (committedBy c s t) u
   acquires-meet tr nt nu = meet (both-orders tr nt nu)

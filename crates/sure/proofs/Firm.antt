@@ -1,4 +1,4 @@
--- What stands behind a queued action: only later actions of its processor. So no acquire hides a source from a read. Assumes nothing.
+-- Behind a queued action stand only later actions of its processor, so no acquire's commit hides a source from a read. Assumes nothing.
 use mathlib.Core.Path.{_≡_, refl, sym, _∙_, ap, subst}
 use mathlib.Core.Logic.{_⊎_, inl, inr, ⊎-elim}
 use mathlib.Core.Bool.{Bool, true, false, cond, _&&_, false≢true}
@@ -6,23 +6,23 @@ use mathlib.Core.Option.{Option, none, some}
 use Prim.Native.Nat.{ℕ, _+_, _≤_, _<_}
 use native.Mathlib.Omega.{arith}
 use lib.Dec.{eqb, ltb}
-use borrow.Author.Tests.{eqb-true, eqb-false, eq-eqb, ltb-true, ltb-false}
+use borrow.Author.Tests.{eqb-true, eqb-false, ltb-true, ltb-false}
 use Rattle.words.specs.Small.{someBelow, is, isNone}
-use Rattle.words.proofs.Bools.{and-make, below-fewer, and-both, below-make, fails, put-other, decide, put-same}
+use Rattle.words.proofs.Bools.{and-make, below-fewer, and-both, fails, put-other, decide, put-same}
 use Rattle.cases.specs.declared.Case.{Case}
 use Rattle.rules.specs.Kinds.{releasing, reading, acquiring, writing}
 use Rattle.rules.specs.Commit.{writes, committed}
-use Rattle.rules.specs.State.{Action, standsAt, State, kindOf, waiting, initial}
+use Rattle.rules.specs.State.{Action, standsAt, State, kindOf, initial}
 use Rattle.rules.specs.Step.{issue, Step, commit, neither, stepCode, after}
 use Rattle.rules.specs.Issue.{newAction, issued, earlier}
 use Rattle.rules.specs.Order.{joinedIf, Order}
 use Rattle.rules.proofs.Closed.{UpTo, Via, joined-cases}
 use Rattle.rules.proofs.Accepted.{after-issue, after-commit, can-commit, between, Visible, visible-make, neither-no}
-use Rattle.sure.proofs.Kept.{Kept, kept-commit, waits-none, waits-proc, item-kept, carry}
+use Rattle.sure.proofs.Kept.{unheld, issued-new, issued-old, committed-field, Kept, kept-commit, waits-none, waits-proc, item-kept, carry}
 use Rattle.sure.proofs.Good.{Good}
 use Rattle.sure.proofs.Issues.{item-high}
 use Rattle.sure.proofs.Commits.{item-test, unbarred}
-use Rattle.sure.proofs.Commit.{settledBy, committedBy, self, CanTake, the, sees-take, item, Commit, holds, releases, input}
+use Rattle.sure.proofs.Commit.{settledBy, committedBy, self, CanTake, the, sees-take, item, Commit, releases, input}
 use Rattle.sure.proofs.Held.{read-held, read-only, release-held}
 
 -- item b is a later action of k's processor
@@ -36,7 +36,8 @@ pub record Firm (s : State) : Type 0 where
   -- what stands behind an action in the queue is its processor's
   pub behind : (l k b : ℕ) → s .orders l (8 + k) b ≡ true → s .actions k .result ≡ none → Behind s k b
   -- before a committed release, all of its processor is committed
-  pub drained : (j k : ℕ) → releasing (kindOf (s .actions j)) ≡ true → isNone (s .actions j .result) ≡ false → k < j → s .actions k .proc ≡ s .actions j .proc → s .actions k .result ≡ none → ⊥
+  pub drained : (j k : ℕ) → releasing (kindOf (s .actions j)) ≡ true → isNone (s .actions j .result) ≡ false → k < j
+      → s .actions k .proc ≡ s .actions j .proc → s .actions k .result ≡ none → ⊥
 
 pub firm-initial : (c : Case) → Firm (initial c)
 firm-initial c = record { behind = λ l k b x y. absurd (false≢true x); drained = λ j k x y l p z. absurd (false≢true (sym y)) }
@@ -48,29 +49,25 @@ joinedIf-cases false R i n P a b h = inl h
 
 module _ (c : Case) (s : State) (G : Good s) (F : Firm s) where
   module _ (p : ℕ) where
-    pub old : (k : ℕ) → k < s .count → issued c s p .actions k ≡ s .actions k
-    unfolding issued
-    old k h = put-other (s .actions) (s .count) k (newAction c s p) (λ e. omega arith)
-
-    fresh : issued c s p .actions (s .count) ≡ newAction c s p
-    unfolding issued
-    fresh = put-same (s .actions) (s .count) (s .count) (newAction c s p) refl
-
     behind-old : (k b : ℕ) → k < s .count → b < 8 + s .count → Behind s k b → Behind (issued c s p) k b
     behind-old k b h g B =
         let j : B .number < s .count = omega (arith, B .isItem) in
-        record { number = B .number; isItem = B .isItem; above = B .above; mine = ap (λ (a : Action). a .proc) (old (B .number) j) ∙ B .mine ∙ ap (λ (a : Action). a .proc) (sym (old k h)) }
+        record { number = B .number; isItem = B .isItem; above = B .above; mine = ap (λ (a : Action). a .proc) (issued-old c s p (B .number) j) ∙ B .mine ∙ ap (λ (a : Action). a .proc) (sym (issued-old c s p k h)) }
 
     -- an earlier item of the processor
     earlier-proc : (l j : ℕ) → earlier c s p l (8 + j) ≡ true → s .actions j .proc ≡ p
-    earlier-proc l j h = eqb-true _ _ (and-both (eqb (s .actions j .proc) p) (standsAt l (s .actions j)) (sym (item-high (eqb (8 + j) l) (λ a. eqb (a .proc) p && standsAt l a) s j (8 + j) refl) ∙ h) .0)
+    earlier-proc l j h =
+        eqb-true _ _
+        (and-both (eqb (s .actions j .proc) p) (standsAt l (s .actions j)) (sym (item-high (eqb (8 + j) l) (λ a. eqb (a .proc) p && standsAt l a) s j (8 + j) refl) ∙ h) .0)
 
     behind-issue : (l k b : ℕ) → issued c s p .orders l (8 + k) b ≡ true → issued c s p .actions k .result ≡ none → Behind (issued c s p) k b
     unfolding issued
-    behind-issue l k b h w = ⊎-elim before via (joinedIf-cases (ltb l (c .locs) && standsAt l (newAction c s p)) (s .orders l) (8 + s .count) (8 + s .count) (earlier c s p l) (8 + k) b h)
+    behind-issue l k b h w =
+        ⊎-elim before via
+        (joinedIf-cases (ltb l (c .locs) && standsAt l (newAction c s p)) (s .orders l) (8 + s .count) (8 + s .count) (earlier c s p l) (8 + k) b h)
       where
         idle : k < s .count → s .actions k .result ≡ none
-        idle g = ap (λ (a : Action). a .result) (sym (old k g)) ∙ w
+        idle g = ap (λ (a : Action). a .result) (sym (issued-old c s p k g)) ∙ w
 
         before : s .orders l (8 + k) b ≡ true → Behind (issued c s p) k b
         before e =
@@ -79,7 +76,13 @@ module _ (c : Case) (s : State) (G : Good s) (F : Firm s) where
             behind-old k b g (q .1) (F .behind l k b e (idle g))
 
         new : b ≡ 8 + s .count → k < s .count → s .actions k .proc ≡ p → Behind (issued c s p) k b
-        new e g m = record { number = s .count; isItem = e; above = g; mine = ap (λ (a : Action). a .proc) fresh ∙ sym m ∙ ap (λ (a : Action). a .proc) (sym (old k g)) }
+        new e g m =
+            record {
+              number = s .count;
+              isItem = e;
+              above = g;
+              mine = ap (λ (a : Action). a .proc) (issued-new c s p) ∙ sym m ∙ ap (λ (a : Action). a .proc) (sym (issued-old c s p k g));
+            }
 
         via : Via (s .orders l) (8 + s .count) (8 + s .count) (earlier c s p l) (8 + k) b → Behind (issued c s p) k b
         via v = down (v .down)
@@ -95,16 +98,21 @@ module _ (c : Case) (s : State) (G : Good s) (F : Firm s) where
             down (inl e) = let q = at (v .up) in new (sym e) (q .0) (q .1)
             down (inr e) = absurd (omega (arith, G .bounded l (8 + s .count) b e .0))
 
-    drained-issue : (j k : ℕ) → releasing (kindOf (issued c s p .actions j)) ≡ true → isNone (issued c s p .actions j .result) ≡ false → k < j → issued c s p .actions k .proc ≡ issued c s p .actions j .proc → issued c s p .actions k .result ≡ none → ⊥
+    drained-issue : (j k : ℕ) → releasing (kindOf (issued c s p .actions j)) ≡ true → isNone (issued c s p .actions j .result) ≡ false → k < j
+        → issued c s p .actions k .proc ≡ issued c s p .actions j .proc → issued c s p .actions k .result ≡ none → ⊥
     unfolding issued
     drained-issue j k x y l m z =
         let g : j < s .count = low (decide (ltb j (s .count))) in
-        let a = old j g in
-        let b = old k (omega arith) in
+        let a = issued-old c s p j g in
+        let b = issued-old c s p k (omega arith) in
         F .drained j k (ap (λ (a : Action). releasing (kindOf a)) (sym a) ∙ x) (ap (λ (a : Action). isNone (a .result)) (sym a) ∙ y) l (ap (λ (a : Action). a .proc) (sym b) ∙ m ∙ ap (λ (a : Action). a .proc) a) (ap (λ (a : Action). a .result) (sym b) ∙ z)
       where
         unset : s .count ≤ j → isNone (issued c s p .actions j .result) ≡ true
-        unset h = ⊎-elim (λ e. ap (λ (a : Action). isNone (a .result)) (put-same (s .actions) (s .count) j (newAction c s p) (eqb-true _ _ e))) (λ e. ap (λ (a : Action). isNone (a .result)) (put-other (s .actions) (s .count) j (newAction c s p) (eqb-false _ _ e)) ∙ ap isNone (G .fresh j h)) (decide (eqb j (s .count)))
+        unset h =
+            ⊎-elim
+            (λ e. ap (λ (a : Action). isNone (a .result)) (put-same (s .actions) (s .count) j (newAction c s p) (eqb-true _ _ e)))
+            (λ e. ap (λ (a : Action). isNone (a .result)) (put-other (s .actions) (s .count) j (newAction c s p) (eqb-false _ _ e)) ∙ ap isNone (G .fresh j h))
+            (decide (eqb j (s .count)))
 
         low : (ltb j (s .count) ≡ true) ⊎ (ltb j (s .count) ≡ false) → j < s .count
         low (inl e) = ltb-true _ _ e
@@ -137,26 +145,26 @@ module _ (c : Case) (s : State) (G : Good s) (F : Firm s) where
     -- an edge from a queued action was there before
     kept-edge : (l k b : ℕ) → s .actions k .result ≡ none → committedBy c s u .orders l (8 + k) b ≡ true → s .orders l (8 + k) b ≡ true
     unfolding committed
-    kept-edge l k b n h = ⊎-elim (λ e. e) (λ v. absurd (released-front l (input s u 0) k (v .from) (v .one) (v .up) n)) (joinedIf-cases (ltb l (c .locs) && acquiring (kindOf (self s u))) (s .orders l) (item u) (8 + s .count) (releases s (input s u 0)) (8 + k) b h)
+    kept-edge l k b n h =
+        ⊎-elim (λ e. e)
+        (λ v. absurd (released-front l (input s u 0) k (v .from) (v .one) (v .up) n))
+        (joinedIf-cases (ltb l (c .locs) && acquiring (kindOf (self s u))) (s .orders l) (item u) (8 + s .count) (releases s (input s u 0)) (8 + k) b h)
 
     -- what is queued after was before
     pub was-queued : (k : ℕ) → committedBy c s u .actions k .result ≡ none → (k ≡ u .action → ⊥) × (s .actions k .result ≡ none)
     unfolding committed
     was-queued k = step (eqb k (u .action)) refl
       where
-        step : (b : Bool) → eqb k (u .action) ≡ b → cond b (settledBy c s u) (s .actions k) .result ≡ none → (k ≡ u .action → ⊥) × (s .actions k .result ≡ none)
+        step : (b : Bool) → eqb k (u .action) ≡ b → cond b (settledBy c s u) (s .actions k) .result ≡ none
+            → (k ≡ u .action → ⊥) × (s .actions k .result ≡ none)
         step true e x = absurd (false≢true (ap isNone x))
         step false e x = (eqb-false _ _ e, x)
 
     same-proc : (k : ℕ) → committedBy c s u .actions k .proc ≡ s .actions k .proc
-    unfolding committed
-    same-proc k = step (eqb k (u .action)) refl
-      where
-        step : (b : Bool) → eqb k (u .action) ≡ b → cond b (settledBy c s u) (s .actions k) .proc ≡ s .actions k .proc
-        step true e = ap (λ (i : ℕ). s .actions i .proc) (sym (eqb-true _ _ e))
-        step false e = refl
+    same-proc = committed-field c s u (λ a. a .proc) refl
 
-    drained-commit : (j k : ℕ) → releasing (kindOf (committedBy c s u .actions j)) ≡ true → isNone (committedBy c s u .actions j .result) ≡ false → k < j → committedBy c s u .actions k .proc ≡ committedBy c s u .actions j .proc → committedBy c s u .actions k .result ≡ none → ⊥
+    drained-commit : (j k : ℕ) → releasing (kindOf (committedBy c s u .actions j)) ≡ true → isNone (committedBy c s u .actions j .result) ≡ false
+        → k < j → committedBy c s u .actions k .proc ≡ committedBy c s u .actions j .proc → committedBy c s u .actions k .result ≡ none → ⊥
     unfolding committed
     drained-commit j k x y l m z = step (decide (eqb j (u .action)))
       where
@@ -170,7 +178,7 @@ module _ (c : Case) (s : State) (G : Good s) (F : Firm s) where
         here e =
             let r : releasing (kindOf (self s u)) ≡ true = sym (ap (λ (a : Action). releasing (kindOf a)) (put-same (s .actions) (u .action) j (settledBy c s u) e)) ∙ x in
             let p : s .actions k .proc ≡ u .proc = m′ ∙ ap (λ (i : ℕ). s .actions i .proc) e ∙ waits-proc (u .proc) (self s u) (U .waits) in
-            false≢true (sym (U .free) ∙ below-make (u .action) (holds s u) k (omega arith) (and-make (waiting (u .proc) (s .actions k)) _ (and-make _ _ (eq-eqb _ _ p) (ap isNone n)) (release-held (kindOf (self s u)) _ _ r)))
+            unheld c s u U k (omega arith) p n (release-held (kindOf (self s u)) _ _ r)
 
         there : (j ≡ u .action → ⊥) → ⊥
         there d =
@@ -213,7 +221,7 @@ module _ (c : Case) (s : State) (G : Good s) (F : Firm s) where
         let B = F .behind l (u .action) (item t) h taken in
         let e : B .number ≡ t .action = omega (arith, B .isItem) in
         let p : s .actions (u .action) .proc ≡ t .proc = sym (B .mine) ∙ ap (λ (i : ℕ). s .actions i .proc) e ∙ waits-proc (t .proc) (self s t) (T .waits) in
-        false≢true (sym (T .free) ∙ below-make (t .action) (holds s t) (u .action) (omega (arith, B .above)) (and-make (waiting (t .proc) (self s u)) _ (and-make _ _ (eq-eqb _ _ p) (ap isNone taken)) (read-held (kindOf (self s t)) (kindOf (self s u)) _ r a)))
+        unheld c s t T (u .action) (omega (arith, B .above)) p taken (read-held (kindOf (self s t)) (kindOf (self s u)) _ r a)
 
     not-upTo : (l : ℕ) → UpTo (s .orders l) (item u) (item t) → ⊥
     not-upTo l (inl e) = d (omega arith)
@@ -222,11 +230,15 @@ module _ (c : Case) (s : State) (G : Good s) (F : Firm s) where
     -- an edge to the read was there before, and so was one to what stands before it
     to-read : (l w : ℕ) → committedBy c s u .orders l w (item t) ≡ true → s .orders l w (item t) ≡ true
     unfolding committed
-    to-read l w h = ⊎-elim (λ e. e) (λ v. absurd (not-upTo l (v .down))) (joinedIf-cases (ltb l (c .locs) && acquiring (kindOf (self s u))) (s .orders l) (item u) (8 + s .count) (releases s (input s u 0)) w (item t) h)
+    to-read l w h =
+        ⊎-elim (λ e. e) (λ v. absurd (not-upTo l (v .down)))
+        (joinedIf-cases (ltb l (c .locs) && acquiring (kindOf (self s u))) (s .orders l) (item u) (8 + s .count) (releases s (input s u 0)) w (item t) h)
 
     to-before : (l e w : ℕ) → s .orders l w (item t) ≡ true → committedBy c s u .orders l e w ≡ true → s .orders l e w ≡ true
     unfolding committed
-    to-before l e w x h = ⊎-elim (λ q. q) (λ v. absurd (down (v .down))) (joinedIf-cases (ltb l (c .locs) && acquiring (kindOf (self s u))) (s .orders l) (item u) (8 + s .count) (releases s (input s u 0)) e w h)
+    to-before l e w x h =
+        ⊎-elim (λ q. q) (λ v. absurd (down (v .down)))
+        (joinedIf-cases (ltb l (c .locs) && acquiring (kindOf (self s u))) (s .orders l) (item u) (8 + s .count) (releases s (input s u 0)) e w h)
       where
         down : UpTo (s .orders l) (item u) w → ⊥
         down (inl q) = not-behind l (subst (λ (y : ℕ). s .orders l y (item t) ≡ true) (sym q) x)

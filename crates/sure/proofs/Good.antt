@@ -1,4 +1,4 @@
--- What holds of every reachable state. Assumes nothing.
+-- What holds of every state that an accepted schedule leads to: its place counters, names, items and orders fit together. Assumes nothing.
 use mathlib.Core.Path.{_≡_, refl, sym, _∙_, ap, subst}
 use mathlib.Core.Logic.{_⊎_, inl, inr, ⊎-elim}
 use mathlib.Core.Bool.{Bool, true, false, cond, false≢true}
@@ -32,6 +32,11 @@ pub record Turning (s : State) (p k : ℕ) : Type 0 where
   pub mine : s .actions k .proc ≡ p
   pub waits : s .actions k .result ≡ none
   pub turns : branching (kindOf (s .actions k)) ≡ true
+
+pub turning-at : (c : Case) (s : State) (t : Commit) → CanTake c s t → (p : ℕ) → t .proc ≡ p → branching (kindOf (self s t)) ≡ true
+    → Turning s p (t .action)
+turning-at c s t T p e b =
+    record { there = T .there; mine = waits-proc (t .proc) (self s t) (T .waits) ∙ e; waits = waits-none (t .proc) (self s t) (T .waits); turns = b }
 
 -- the name refers to an action below n
 abbrev pub Below : ℕ → Name → Type 0
@@ -72,7 +77,8 @@ unfolding joinedIf
 joinedIf-transitive true R i n P t = joined-transitive R i n P t
 joinedIf-transitive false R i n P t = t
 
-joinedIf-bounded : (b : Bool) (R : Order) (i n m : ℕ) (P : ℕ → Bool) → ((x y : ℕ) → R x y ≡ true → (x < m) × (y < m)) → i < m → n ≤ m → (x y : ℕ) → joinedIf b R i n P x y ≡ true → (x < m) × (y < m)
+joinedIf-bounded : (b : Bool) (R : Order) (i n m : ℕ) (P : ℕ → Bool) → ((x y : ℕ) → R x y ≡ true → (x < m) × (y < m)) → i < m → n ≤ m → (x y : ℕ)
+    → joinedIf b R i n P x y ≡ true → (x < m) × (y < m)
 unfolding joinedIf
 joinedIf-bounded true R i n m P f h g x y e = ⊎-elim (f x y) (λ v. (up v (v .up), down (v .down))) (joined-cases R i n P x y e)
   where
@@ -102,7 +108,8 @@ module _ (c : Case) (s : State) (G : Good s) where
     unfolding issued
     turning-issue q k w = step (eqb k (s .count)) refl (w .mine) (w .waits) (w .turns)
       where
-        step : (b : Bool) → eqb k (s .count) ≡ b → cond b (newAction c s p) (s .actions k) .proc ≡ q → cond b (newAction c s p) (s .actions k) .result ≡ none → branching (kindOf (cond b (newAction c s p) (s .actions k))) ≡ true
+        step : (b : Bool) → eqb k (s .count) ≡ b → cond b (newAction c s p) (s .actions k) .proc ≡ q
+            → cond b (newAction c s p) (s .actions k) .result ≡ none → branching (kindOf (cond b (newAction c s p) (s .actions k))) ≡ true
             → ((k ≡ s .count) × (q ≡ p) × (branching (kind (next c s p)) ≡ true)) ⊎ Turning s q k
         step true e x y z = inl (eqb-true _ _ e, sym x, z)
         step false e x y z = inr (record { there = omega (arith, w .there, eqb-false k (s .count) e); mine = x; waits = y; turns = z })
@@ -135,7 +142,10 @@ module _ (c : Case) (s : State) (G : Good s) where
     inputs-issue k = step (eqb k (s .count))
       where
         step : (b : Bool) → AllBelow (suc (s .count)) (cond b (newAction c s p) (s .actions k) .inputs)
-        step true = all-map (suc (s .count)) (s .names p) (λ j. below-more (s .count) (suc (s .count)) (omega arith) (s .names p j) (G .named p j)) (reads (next c s p))
+        step true =
+            all-map (suc (s .count)) (s .names p)
+            (λ j. below-more (s .count) (suc (s .count)) (omega arith) (s .names p j) (G .named p j))
+            (reads (next c s p))
         step false = all-more (s .count) (suc (s .count)) (omega arith) (s .actions k .inputs) (G .inputs k)
 
     pub good-issue : Good (issued c s p)
@@ -143,7 +153,11 @@ module _ (c : Case) (s : State) (G : Good s) where
     good-issue =
         record {
           fresh = λ k l. ap (λ (a : Action). a .result) (put-other (s .actions) (s .count) k (newAction c s p) (λ e. omega arith)) ∙ G .fresh k (omega arith);
-          halts = λ q k w. ⊎-elim (λ e. ap isNone (put-same (s .places) p q (placeAfter (next c s p) (here c s p)) (e .1)) ∙ branch-stops (next c s p) (here c s p) (e .2)) (λ v. ap isNone (put-other (s .places) p q (placeAfter (next c s p) (here c s p)) (λ e. none-here k (subst (λ (x : ℕ). Turning s x k) e v))) ∙ G .halts q k v) (turning-issue q k w);
+          halts = λ q k w.
+              ⊎-elim
+              (λ e. ap isNone (put-same (s .places) p q (placeAfter (next c s p) (here c s p)) (e .1)) ∙ branch-stops (next c s p) (here c s p) (e .2))
+              (λ v. ap isNone (put-other (s .places) p q (placeAfter (next c s p) (here c s p)) (λ e. none-here k (subst (λ (x : ℕ). Turning s x k) e v))) ∙ G .halts q k v)
+              (turning-issue q k w);
           alone = λ q j k v w. alone q j k (turning-issue q j v) (turning-issue q k w);
           ordered = λ l. joinedIf-transitive _ _ _ _ _ (G .ordered l);
           named = named-issue;
@@ -151,7 +165,8 @@ module _ (c : Case) (s : State) (G : Good s) where
           bounded = λ l a b. joinedIf-bounded _ _ _ _ _ _ (λ x y e. let w = G .bounded l x y e in (omega (arith, w .0), omega (arith, w .1))) (omega arith) (omega arith) a b;
         }
       where
-        alone : (q j k : ℕ) → ((j ≡ s .count) × (q ≡ p) × (branching (kind (next c s p)) ≡ true)) ⊎ Turning s q j → ((k ≡ s .count) × (q ≡ p) × (branching (kind (next c s p)) ≡ true)) ⊎ Turning s q k → j ≡ k
+        alone : (q j k : ℕ) → ((j ≡ s .count) × (q ≡ p) × (branching (kind (next c s p)) ≡ true)) ⊎ Turning s q j
+            → ((k ≡ s .count) × (q ≡ p) × (branching (kind (next c s p)) ≡ true)) ⊎ Turning s q k → j ≡ k
         alone q j k (inl x) (inl y) = x .0 ∙ sym (y .0)
         alone q j k (inl x) (inr y) = absurd (none-here k (subst (λ (z : ℕ). Turning s z k) (x .1) y))
         alone q j k (inr x) (inl y) = absurd (none-here j (subst (λ (z : ℕ). Turning s z j) (y .1) x))
@@ -162,7 +177,8 @@ module _ (c : Case) (s : State) (G : Good s) where
     unfolding committed
     turning-commit q k w = step (eqb k (t .action)) refl (w .mine) (w .waits) (w .turns)
       where
-        step : (b : Bool) → eqb k (t .action) ≡ b → cond b (settledBy c s t) (s .actions k) .proc ≡ q → cond b (settledBy c s t) (s .actions k) .result ≡ none → branching (kindOf (cond b (settledBy c s t) (s .actions k))) ≡ true
+        step : (b : Bool) → eqb k (t .action) ≡ b → cond b (settledBy c s t) (s .actions k) .proc ≡ q
+            → cond b (settledBy c s t) (s .actions k) .result ≡ none → branching (kindOf (cond b (settledBy c s t) (s .actions k))) ≡ true
             → (k ≡ t .action → ⊥) × Turning s q k
         step true e x y z = absurd (false≢true (ap isNone y))
         step false e x y z = (eqb-false _ _ e, record { there = w .there; mine = x; waits = y; turns = z })
@@ -172,9 +188,12 @@ module _ (c : Case) (s : State) (G : Good s) where
     halts-commit q k d w = step (branching (kindOf (self s t))) refl
       where
         differ : branching (kindOf (self s t)) ≡ true → q ≡ t .proc → ⊥
-        differ b e = d (G .alone q k (t .action) w (record { there = h .there; mine = waits-proc (t .proc) (self s t) (h .waits) ∙ sym e; waits = waits-none (t .proc) (self s t) (h .waits); turns = b }))
+        differ b e =
+            d
+            (G .alone q k (t .action) w (turning-at c s t h q (sym e) b))
 
-        step : (b : Bool) → branching (kindOf (self s t)) ≡ b → isNone (cond b (put (s .places) (t .proc) (some (cond (eqb (input s t 0) 0) (suc (self s t .place)) (labelOf (self s t .instr))))) (s .places) q) ≡ true
+        step : (b : Bool) → branching (kindOf (self s t)) ≡ b
+            → isNone (cond b (put (s .places) (t .proc) (some (cond (eqb (input s t 0) 0) (suc (self s t .place)) (labelOf (self s t .instr))))) (s .places) q) ≡ true
         step true e = ap isNone (put-other (s .places) (t .proc) q _ (differ e)) ∙ G .halts q k w
         step false e = G .halts q k w
 

@@ -1,11 +1,12 @@
--- Rows of the hold-back table, and what a kind is not. Assumes nothing.
-use mathlib.Core.Path.{_≡_, refl}
-use mathlib.Core.Bool.{Bool, true, false}
-use mathlib.Core.Logic.{_⊎_, inl, inr}
+-- Rows of 'which earlier uncommitted actions hold back a commit', and what a kind is not. Assumes nothing.
+use mathlib.Core.Path.{_≡_, refl, subst}
+use mathlib.Core.Bool.{Bool, true, false, false≢true}
+use mathlib.Core.Logic.{_⊎_, inl, inr, ⊎-elim}
 use Prim.Native.Nat.{ℕ}
 use borrow.Author.Tests.{eqb-true}
-use Rattle.words.proofs.Bools.{or-cases}
+use Rattle.words.proofs.Bools.{or-cases, decide}
 use Rattle.rules.specs.Kinds.{reading, writing, branching, acquiring, releasing, syncs, heldBy}
+use Rattle.sure.specs.Sure.{sureKind}
 
 module _ (k q : ℕ) (same : Bool) where
   -- a release is held back by anything
@@ -33,3 +34,10 @@ read-only k h = rw (eqb-true k 1 h) (refl, refl, refl, refl)
 
 pub acquire-only : (k : ℕ) → acquiring k ≡ true → (branching k ≡ false) × (reading k ≡ false) × (releasing k ≡ false)
 acquire-only k h = rw (eqb-true k 6 h) (refl, refl, refl)
+
+-- a sure commit is of neither kind
+pub sure-unread : (k : ℕ) → sureKind k ≡ true → reading k ≡ false
+sure-unread k h = ⊎-elim (λ r. absurd (false≢true (subst (λ (i : ℕ). sureKind i ≡ true) (eqb-true k 1 r) h))) (λ r. r) (decide (reading k))
+
+pub sure-unacquired : (k : ℕ) → sureKind k ≡ true → acquiring k ≡ false
+sure-unacquired k h = ⊎-elim (λ r. absurd (false≢true (subst (λ (i : ℕ). sureKind i ≡ true) (eqb-true k 6 r) h))) (λ r. r) (decide (acquiring k))

@@ -10,7 +10,7 @@ use lib.Dec.{eqb, ltb, leb}
 use lib.ListN.{getD}
 use borrow.Author.Tests.{le-ltb, ltb-false, eqb-true, eqb-false}
 use Rattle.words.specs.Small.{is, someBelow, put, orZero, isNone}
-use Rattle.words.proofs.Bools.{below-cases, decide, put-same, and-make, below-make, put-swap, put-other, and-both, cond-false, fails}
+use Rattle.words.proofs.Bools.{below-cases, decide, and-make, below-make, put-swap, put-other, and-both, cond-false, fails}
 use Rattle.cases.specs.Case.{instrAt, wordOf, countOf}
 use Rattle.cases.specs.declared.Instr.{Instr}
 use Rattle.cases.specs.declared.Case.{Case}
@@ -18,12 +18,11 @@ use Rattle.rules.specs.Kinds.{kind, acquiring, accesses, branching, assigns, wr
 use Rattle.rules.specs.Commit.{visible, committed, writes}
 use Rattle.rules.specs.State.{itemIs, Action, given, State, start, Name, kindOf, valueOf, standsAt}
 use Rattle.rules.specs.Issue.{address, earlier, issued, here, next, placeAfter, newAction, bound, renamed}
-use Rattle.rules.specs.Order.{joinedIf}
 use Rattle.rules.proofs.Orders.{joinedIf-old, joinedIf-swap, joinedIf-ext}
 use Rattle.rules.proofs.Accepted.{visible-make, CanIssue, Visible, between}
-use Rattle.sure.proofs.Kept.{Kept, kept-commit, kept-issue, waits-none, waits-proc, input-same, item-kept, carry, settled-same}
-use Rattle.sure.proofs.Commits.{cond-put-swap, placesBy, holdersBy, item-test}
-use Rattle.sure.proofs.Good.{Good}
+use Rattle.sure.proofs.Kept.{issued-new, Kept, kept-commit, kept-issue, input-same, item-kept, carry, settled-same}
+use Rattle.sure.proofs.Commits.{acquired, joins, cond-put-swap, placesBy, holdersBy, item-test}
+use Rattle.sure.proofs.Good.{turning-at, Good}
 use Rattle.sure.proofs.Commit.{settledBy, sees-take, self, CanTake, Commit, item, releases, input, committedBy}
 
 -- a step that leaves processor p's place and names as they are
@@ -40,10 +39,13 @@ module _ (c : Case) (s s′ : State) (p : ℕ) (S : Stays s s′ p) (I : CanIssu
   bound-same = ap₂ (λ (f : ℕ → Name) (i : Instr). map f (reads i)) (S .names) next-same
 
   address-same : accesses (kind (next c s p)) ≡ true → address c s′ p ≡ address c s p
-  address-same e = ap (λ (b : List Name). valueOf s′ (getD b 0 (start none))) bound-same ∙ S .values (getD (bound c s p) 0 (start none)) (subst (λ (b : Bool). (b && isNone (address c s p)) ≡ false) e (I .known))
+  address-same e =
+      ap (λ (b : List Name). valueOf s′ (getD b 0 (start none))) bound-same
+      ∙ S .values (getD (bound c s p) 0 (start none)) (subst (λ (b : Bool). (b && isNone (address c s p)) ≡ false) e (I .known))
 
   -- what looks at the address only for a read or a write
-  by-address : {A : Type 0} (f : Bool → Option ℕ → A) → ((o o′ : Option ℕ) → f false o ≡ f false o′) → f (accesses (kind (next c s′ p))) (address c s′ p) ≡ f (accesses (kind (next c s p))) (address c s p)
+  by-address : {A : Type 0} (f : Bool → Option ℕ → A) → ((o o′ : Option ℕ) → f false o ≡ f false o′)
+      → f (accesses (kind (next c s′ p))) (address c s′ p) ≡ f (accesses (kind (next c s p))) (address c s p)
   by-address f h = ap (λ (i : Instr). f (accesses (kind i)) (address c s′ p)) next-same ∙ step (accesses (kind (next c s p))) refl
     where
       step : (b : Bool) → accesses (kind (next c s p)) ≡ b → f b (address c s′ p) ≡ f b (address c s p)
@@ -79,12 +81,9 @@ and-false false = refl
 pub item-high : (b : Bool) (f : Action → Bool) (s : State) (k e : ℕ) → e ≡ 8 + k → itemIs b f s e ≡ f (s .actions k)
 item-high b f s k e h = cond-false (ltb e 8) b _ (le-ltb e 8 (omega arith)) ∙ ap (λ (j : ℕ). f (s .actions j)) (omega arith)
 
-pub new-at : (c : Case) (s : State) (p : ℕ) → issued c s p .actions (s .count) ≡ newAction c s p
-unfolding issued
-new-at c s p = put-same (s .actions) (s .count) (s .count) (newAction c s p) refl
-
 -- a test of items that the issue does not change
-pub item-old : (c : Case) (s : State) (p : ℕ) (b : Bool) (f : Action → Bool) (e : ℕ) → (e ≡ 8 + s .count → ⊥) → itemIs b f (issued c s p) e ≡ itemIs b f s e
+pub item-old : (c : Case) (s : State) (p : ℕ) (b : Bool) (f : Action → Bool) (e : ℕ) → (e ≡ 8 + s .count → ⊥)
+    → itemIs b f (issued c s p) e ≡ itemIs b f s e
 unfolding issued
 item-old c s p b f e d = step (ltb e 8) refl
   where
@@ -99,8 +98,11 @@ module _ (c : Case) (s : State) (p : ℕ) (u : Commit) (G : Good s) (I : CanIssu
   unfolding committed
   places-kept = step (branching (kindOf (self s u))) refl
     where
-      step : (b : Bool) → branching (kindOf (self s u)) ≡ b → cond b (put (s .places) (u .proc) (some (cond (eqb (input s u 0) 0) (suc (self s u .place)) (labelOf (self s u .instr))))) (s .places) p ≡ s .places p
-      step true e = put-other (s .places) (u .proc) p _ λ q. false≢true (sym (I .place) ∙ G .halts p (u .action) (record { there = U .there; mine = waits-proc (u .proc) (self s u) (U .waits) ∙ sym q; waits = waits-none (u .proc) (self s u) (U .waits); turns = e }))
+      step : (b : Bool) → branching (kindOf (self s u)) ≡ b
+          → cond b (put (s .places) (u .proc) (some (cond (eqb (input s u 0) 0) (suc (self s u .place)) (labelOf (self s u .instr))))) (s .places) p ≡ s .places p
+      step true e =
+          put-other (s .places) (u .proc) p _
+          λ q. false≢true (sym (I .place) ∙ G .halts p (u .action) (turning-at c s u U p (sym q) e))
       step false e = refl
 
   stays : Stays s (committedBy c s u) p
@@ -133,7 +135,9 @@ module _ (c : Case) (s : State) (p : ℕ) (u : Commit) (G : Good s) (I : CanIssu
       }
     where
       new : e ≡ 8 + s .count → ⊥
-      new q = false≢true (sym (v .known) ∙ ap isNone (cond-false (ltb e 8) (some (wordOf c e)) (s .actions (e - 8) .result) (le-ltb e 8 (omega arith)) ∙ G .fresh (e - 8) (omega arith)))
+      new q =
+          false≢true
+          (sym (v .known) ∙ ap isNone (cond-false (ltb e 8) (some (wordOf c e)) (s .actions (e - 8) .result) (le-ltb e 8 (omega arith)) ∙ G .fresh (e - 8) (omega arith)))
 
       still : someBelow (8 + issued c s p .count) (between (issued c s p) l i e) ≡ true → someBelow (8 + s .count) (between s l i e) ≡ true
       still h =
@@ -150,8 +154,12 @@ module _ (c : Case) (s : State) (p : ℕ) (u : Commit) (G : Good s) (I : CanIssu
   unfolding issued
   commit-after = carry c s (issued c s p) u kept U (U .allowed) (sees (decide (reading (kindOf (self s u)))))
     where
-      sees : (reading (kindOf (self s u)) ≡ true) ⊎ (reading (kindOf (self s u)) ≡ false) → (reading (kindOf (self s u)) && not (visible c (issued c s p) (self s u .loc) (item u) (u .source))) ≡ false
-      sees (inl r) = rw (r, visible-make c (issued c s p) (self s u .loc) (item u) (u .source) (visible-kept _ _ _ (λ e. omega (arith, U .there)) (sees-take c s u U r))) refl
+      sees : (reading (kindOf (self s u)) ≡ true) ⊎ (reading (kindOf (self s u)) ≡ false)
+          → (reading (kindOf (self s u)) && not (visible c (issued c s p) (self s u .loc) (item u) (u .source))) ≡ false
+      sees (inl r) =
+          rw
+          (r, visible-make c (issued c s p) (self s u .loc) (item u) (u .source) (visible-kept _ _ _ (λ e. omega (arith, U .there)) (sees-take c s u U r)))
+          refl
       sees (inr r) = rw r
 
   -- the two orders meet
@@ -177,7 +185,9 @@ module _ (c : Case) (s : State) (p : ℕ) (u : Commit) (G : Good s) (I : CanIssu
       ∙ sym (ap₂ (λ (i : Instr) (o : Option ℕ). put (committedBy c s u .places) p (placeAfter i (orZero o))) nextly places-kept)
     where
       lone : branching (kindOf (self s u)) ≡ true → true ≡ true → u .proc ≡ p → ⊥
-      lone e z q = false≢true (sym (I .place) ∙ G .halts p (u .action) (record { there = U .there; mine = waits-proc (u .proc) (self s u) (U .waits) ∙ q; waits = waits-none (u .proc) (self s u) (U .waits); turns = e }))
+      lone e z q =
+          false≢true
+          (sym (I .place) ∙ G .halts p (u .action) (turning-at c s u U p q e))
 
   same-names : committedBy c (issued c s p) u .names ≡ issued c (committedBy c s u) p .names
   unfolding committed issued
@@ -189,7 +199,10 @@ module _ (c : Case) (s : State) (p : ℕ) (u : Commit) (G : Good s) (I : CanIssu
 
   -- the new action is no committed release
   released-kept : (m e : ℕ) → releases (issued c s p) m e ≡ releases s m e
-  released-kept m e = ⊎-elim here-it (λ q. item-old c s p false (λ a. releasing (kindOf a) && is m (a .result)) e (eqb-false e (8 + s .count) q)) (decide (eqb e (8 + s .count)))
+  released-kept m e =
+      ⊎-elim here-it
+      (λ q. item-old c s p false (λ a. releasing (kindOf a) && is m (a .result)) e (eqb-false e (8 + s .count) q))
+      (decide (eqb e (8 + s .count)))
     where
       fresh : s .actions (s .count) .result ≡ none
       fresh = G .fresh (s .count) (omega arith)
@@ -197,7 +210,7 @@ module _ (c : Case) (s : State) (p : ℕ) (u : Commit) (G : Good s) (I : CanIssu
       here-it : eqb e (8 + s .count) ≡ true → releases (issued c s p) m e ≡ releases s m e
       here-it q =
           item-high false (λ a. releasing (kindOf a) && is m (a .result)) (issued c s p) (s .count) e (eqb-true _ _ q)
-          ∙ ap (λ (a : Action). releasing (kindOf a) && is m (a .result)) (new-at c s p)
+          ∙ ap (λ (a : Action). releasing (kindOf a) && is m (a .result)) (issued-new c s p)
           ∙ and-false (releasing (kind (next c s p)))
           ∙ sym (and-false (releasing (kindOf (s .actions (s .count)))))
           ∙ ap (λ (o : Option ℕ). releasing (kindOf (s .actions (s .count))) && is m o) (sym fresh)
@@ -206,10 +219,16 @@ module _ (c : Case) (s : State) (p : ℕ) (u : Commit) (G : Good s) (I : CanIssu
   same-orders : (l : ℕ) → committedBy c (issued c s p) u .orders l ≡ issued c (committedBy c s u) p .orders l
   unfolding committed issued
   same-orders l =
-      ap₂ (λ (a : Action) (x : ℕ). joinedIf (ltb l (c .locs) && acquiring (kindOf a)) (issued c s p .orders l) (item u) (8 + suc (s .count)) (releases (issued c s p) x)) (kept .same) (input-same c s (issued c s p) u kept U 0)
-      ∙ joinedIf-ext (ltb l (c .locs) && acquiring (kindOf (self s u))) (issued c s p .orders l) (item u) (8 + suc (s .count)) (8 + s .count) (releases (issued c s p) m) (releases s m) (λ e h r. low e h (sym (released-kept m e) ∙ r)) (λ e h r. (omega arith, released-kept m e ∙ r))
-      ∙ joinedIf-swap (ltb l (c .locs) && standsAt l (newAction c s p)) (ltb l (c .locs) && acquiring (kindOf (self s u))) (s .orders l) (8 + s .count) (8 + s .count) (earlier c s p l) (item u) (8 + s .count) (releases s m) (G .ordered l)
-      ∙ sym (ap₂ (λ (a : Action) (P : ℕ → Bool). joinedIf (ltb l (c .locs) && standsAt l a) (committedBy c s u .orders l) (8 + s .count) (8 + s .count) P) new (fun-ext λ e. item-test c s u (eqb e l) (λ a. eqb (a .proc) p && standsAt l a) refl e))
+      ap₂ (λ (a : Action) (x : ℕ). acquired c l a (issued c s p .orders l) (item u) (8 + suc (s .count)) (releases (issued c s p) x)) (kept .same) (input-same c s (issued c s p) u kept U 0)
+      ∙ joinedIf-ext (ltb l (c .locs) && acquiring (kindOf (self s u))) (issued c s p .orders l) (item u) (8 + suc (s .count)) (8 + s .count)
+      (releases (issued c s p) m) (releases s m)
+      (λ e h r. low e h (sym (released-kept m e) ∙ r))
+      (λ e h r. (omega arith, released-kept m e ∙ r))
+      ∙ joinedIf-swap (ltb l (c .locs) && standsAt l (newAction c s p)) (ltb l (c .locs) && acquiring (kindOf (self s u))) (s .orders l) (8 + s .count)
+      (8 + s .count) (earlier c s p l) (item u) (8 + s .count) (releases s m)
+      (G .ordered l)
+      ∙ sym
+      (ap₂ (λ (a : Action) (P : ℕ → Bool). joins c l a (committedBy c s u .orders l) (8 + s .count) (8 + s .count) P) new (fun-ext λ e. item-test c s u (eqb e l) (λ a. eqb (a .proc) p && standsAt l a) refl e))
     where
       m : ℕ
       m = input s u 0

@@ -18,3 +18,4 @@ pub mod Search
 pub mod Sweep
 pub mod Rows
 pub mod Loop
+pub mod Moves

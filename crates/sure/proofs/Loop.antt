@@ -10,7 +10,7 @@ use native.Mathlib.Omega.{arith}
 use lib.Dec.{eqb}
 use borrow.Author.Tests.{eqb-true, eq-eqb}
 use Rattle.words.specs.Small.{concatMap, counting}
-use Rattle.words.proofs.Bools.{decide, and-both, or-cases, and-make}
+use Rattle.words.proofs.Bools.{decide, and-both, or-cases, and-make, or-left, or-right}
 use Rattle.cases.specs.declared.Case.{Case}
 use Rattle.runs.specs.Outcome.{Cut, Outcome}
 use Rattle.rules.specs.Kinds.{reading}
@@ -20,11 +20,11 @@ use Rattle.rules.specs.Step.{stepCode, Step, after}
 use Rattle.rules.specs.Womm.{womm}
 use Rattle.rules.proofs.Accepted.{counting-mem, can-issue, can-commit}
 use Rattle.sure.specs.Quiet.{quiet}
-use Rattle.sure.specs.Sure.{Sized, sure}
-use Rattle.sure.specs.Spent.{issuing, asleep, Spent, fresh, restful, unwoken, taking, Key, stepBy}
-use Rattle.sure.proofs.Spent.{Resting, resting, Rested}
+use Rattle.sure.specs.Sure.{Sized, sure, sureKind}
+use Rattle.sure.specs.Spent.{issuing, asleep, Spent, fresh, restful, unwoken, taking, Key, stepBy, restable}
+use Rattle.sure.proofs.Spent.{Rested}
 use Rattle.sure.proofs.Search.{Known, known-after, known-initial, unwoken-calm}
-use Rattle.sure.proofs.Sweep.{Question, outcome, cut, Told, Tested, Sweep, source-there, rested-after, told-end, told-bound, told-alone, told-dead, told-all, told-quiet, sweep-start, sweep-note, tested-more, tested-branch, sweep-branch, told-outcomes, told-cut}
+use Rattle.sure.proofs.Sweep.{sweep-turn, Question, outcome, cut, Told, Sweep, source-there, rested-after, told-end, told-bound, told-alone, told-dead, told-all, told-quiet, sweep-start, told-outcomes, told-cut}
 use Rattle.sure.proofs.Commit.{Commit, the, source-zero, can-take}
 
 -- what has been told
@@ -55,9 +55,13 @@ same-key (taking k e) (issuing q) h = absurd (false≢true h)
 same-key (issuing p) (taking j i) h = absurd (false≢true h)
 same-key (issuing p) (issuing q) h = ap issuing (eqb-true p q h)
 
--- spent, with the key if it may be
-abbrev pub noted : State → Key → Spent → Spent
-noted s a sp b = sp b || (restful s a && sameKey b a)
+key-itself : (a : Key) → sameKey a a ≡ true
+key-itself (taking k e) = and-make (eqb k k) (eqb e e) (eq-eqb k k refl) (eq-eqb e e refl)
+key-itself (issuing p) = eq-eqb p p refl
+
+-- spent, with the key
+abbrev pub noted : Key → Spent → Spent
+noted a sp b = sp b || sameKey b a
 
 -- the steps that a search may have to try
 abbrev pub keysOf : State → ℕ → List Key
@@ -97,6 +101,19 @@ first-passes f (y ∷ l) x e = step (first-passes f l x) (f y) refl e
     step more true h e = let z : y ≡ x = cc in ap f (sym z) ∙ h
     step more false h e = more e
 
+first-none : {A : Type 0} (f : A → Bool) {x : A} {l : List A} → List·Memᴰ x l → first f l ≡ none → f x ≡ false
+unfolding isSome
+first-none f {x} (List·Memᴰ·head {x = y} {xs = ys} p) e = ap f p ∙ step (f y) e
+  where
+    step : (b : Bool) → cond b (some y) (first f ys) ≡ none → b ≡ false
+    step true e = absurd (false≢true (sym (ap isSome e)))
+    step false e = refl
+first-none f {x} (List·Memᴰ·tail {x = y} {xs = ys} m) e = step (f y) e (first-none f m)
+  where
+    step : (b : Bool) → cond b (some y) (first f ys) ≡ none → (first f ys ≡ none → f x ≡ false) → f x ≡ false
+    step true e more = absurd (false≢true (sym (ap isSome e)))
+    step false e more = more e
+
 module _ (c : Case) (s : State) (K : Known c s) where
   source-in : (k e : ℕ) → stepCode c s (stepBy s (taking k e)) ≡ 0 → List·Memᴰ (taking k e) (keysOf s k)
   source-in k e h = Memᴰ·map (taking k) (step (reading (kindOf (s .actions k))) refl)
@@ -110,34 +127,47 @@ module _ (c : Case) (s : State) (K : Known c s) where
 
   key-in : (a : Key) → stepCode c s (stepBy s a) ≡ 0 → List·Memᴰ a (keys c s)
   unfolding keys
-  key-in (taking k e) h = Memᴰ·append-left (map issuing (counting 0 (c .procs))) (concatMap-make (keysOf s) (counting-mem (s .count) 0 k (omega arith) (omega (arith, can-commit c s (s .actions k .proc) k e h .there))) (source-in k e h))
-  key-in (issuing p) h = Memᴰ·append-right (concatMap (keysOf s) (counting 0 (s .count))) (Memᴰ·map issuing (counting-mem (c .procs) 0 p (omega arith) (omega (arith, can-issue c s p h .proc))))
+  key-in (taking k e) h =
+      Memᴰ·append-left (map issuing (counting 0 (c .procs)))
+      (concatMap-make (keysOf s) (counting-mem (s .count) 0 k (omega arith) (omega (arith, can-commit c s (s .actions k .proc) k e h .there))) (source-in k e h))
+  key-in (issuing p) h =
+      Memᴰ·append-right (concatMap (keysOf s) (counting 0 (s .count)))
+      (Memᴰ·map issuing (counting-mem (c .procs) 0 p (omega arith) (omega (arith, can-issue c s p h .proc))))
+
+  -- where no accepted step is sure, each may be spent
+  all-restful : (n : ℕ) → first (isSure c n s) (keys c s) ≡ none → (a : Key) → stepCode c s (stepBy s a) ≡ 0 → restful s a ≡ true
+  all-restful n e (taking k i) h =
+      ⊎-elim (λ r. r)
+      (λ r. absurd (false≢true (sym (first-none (isSure c n s) (key-in (taking k i) h) e) ∙ and-make (accepts c s (taking k i)) (sureKind (kindOf (s .actions k))) (eq-eqb _ 0 h) (ap not r))))
+      (decide (restable (kindOf (s .actions k))))
+  all-restful n e (issuing p) h = refl
 
 pub record Sofar : Type 0 where
   pub now : Spent
   pub tally : Tally
 
--- the steps of the keys, but for those that are spent; each that may be is spent from then on
+-- the steps of the keys, but for those that are spent; each is spent from then on
 unfoldable pub each : Case → Search → State → Spent → List Key → Tally → Sofar
 each c deeper s now [] y = record { now = now; tally = y }
 each c deeper s now (a ∷ l) y =
     let t = stepBy s a in
     let skip = each c deeper s now l y in
-    let more = each c deeper s (noted s a now) l (deeper (after c s t) (unwoken s t now) y) in
+    let more = each c deeper s (noted a now) l (deeper (after c s t) (unwoken s t now) y) in
     cond (accepts c s a && not (now a)) more skip
 
 module _ (c : Case) (Z : Sized c) (s : State) (sp : Spent) (K : Known c s) (n : ℕ) (B : Question → Type 0) (deeper : Search)
-    (right : (t : Step) (z : Spent) (y : Tally) → stepCode c s t ≡ 0 → Rested c (after c s t) z → Told c z (after c s t) n (Holds y) (Holds (deeper (after c s t) z y))) where
-  -- after the loop: the invariant, and each accepted step is done with
-  record Eached (now : Spent) (l : List Key) (y : Tally) (o : Sofar) : Type 0 where
+    (right : (t : Step) (z : Spent) (y : Tally) → stepCode c s t ≡ 0 → Rested c (after c s t) z → Told c z (after c s t) n (Holds y) (Holds (deeper (after c s t) z y)))
+    (rest : (a : Key) → stepCode c s (stepBy s a) ≡ 0 → restful s a ≡ true) where
+  -- after the loop: the invariant, and each accepted step is spent
+  record Eached (now : Spent) (l : List Key) (o : Sofar) : Type 0 where
     sweep : Sweep c sp s n (o .now) B (Holds (o .tally))
-    more : (q : Question) → Holds y q → Holds (o .tally) q
-    done : (a : Key) → List·Memᴰ a l → stepCode c s (stepBy s a) ≡ 0 → Tested c sp s n (Holds (o .tally)) (stepBy s a)
+    more : (a : Key) → now a ≡ true → o .now a ≡ true
+    done : (a : Key) → List·Memᴰ a l → stepCode c s (stepBy s a) ≡ 0 → o .now a ≡ true
 
-  eached : (now : Spent) (l : List Key) (y : Tally) → Sweep c sp s n now B (Holds y) → Eached now l y (each c deeper s now l y)
+  eached : (now : Spent) (l : List Key) (y : Tally) → Sweep c sp s n now B (Holds y) → Eached now l (each c deeper s now l y)
   unfolding each
-  eached now [] y S = record { sweep = S; more = λ q x. x; done = λ e m. absurd (List·Memᴰ·not-nil m) }
-  eached now (a ∷ l) y S = step (accepts c s a && not (now a)) refl (eached now l y S) (λ h. eached (noted s a now) l then′ (marked h))
+  eached now [] y S = record { sweep = S; more = λ a x. x; done = λ a m. absurd (List·Memᴰ·not-nil m) }
+  eached now (a ∷ l) y S = step (accepts c s a && not (now a)) refl (eached now l y S) (λ h. eached (noted a now) l then′ (turn h))
     where
       t : Step
       t = stepBy s a
@@ -148,36 +178,36 @@ module _ (c : Case) (Z : Sized c) (s : State) (sp : Spent) (K : Known c s) (n : 
       then′ : Tally
       then′ = deeper (after c s t) z y
 
-      told : stepCode c s t ≡ 0 → Told c z (after c s t) n (Holds y) (Holds then′)
-      told h = right t z y h (rested-after c Z s sp K n (S .rested) t h z (unwoken-calm s t now))
-
-      tested : stepCode c s t ≡ 0 → Tested c sp s n (Holds then′) t
-      tested h = tested-branch c Z s sp K n S t h z (unwoken-calm s t now) (told h)
-
-      marked : stepCode c s t ≡ 0 → Sweep c sp s n (noted s a now) B (Holds then′)
-      marked h = sweep-note c Z s sp K n (sweep-branch c Z s sp K n S t h z (unwoken-calm s t now) (told h)) (noted s a now) old
-        where
-          old : (b : Key) → noted s a now b ≡ true → (now b ≡ true) ⊎ (Resting c s b × Tested c sp s n (Holds then′) (stepBy s b))
-          old b x = ⊎-elim (λ e. inl e) (λ e. let w = and-both (restful s a) (sameKey b a) e in inr (subst (λ (b : Key). Resting c s b × Tested c sp s n (Holds then′) (stepBy s b)) (sym (same-key b a (w .1))) (resting c s a h (w .0), tested h))) (or-cases (now b) (restful s a && sameKey b a) x)
+      turn : stepCode c s t ≡ 0 → Sweep c sp s n (noted a now) B (Holds then′)
+      turn h =
+          sweep-turn c Z s sp K n S a h (rest a h) z (unwoken-calm s t now) (right t z y h (rested-after c Z s sp K n (S .rested) t h z (unwoken-calm s t now))) (noted a now)
+          (λ b x. ⊎-elim (λ e. inl e) (λ e. inr (same-key b a e)) (or-cases (now b) (sameKey b a) x))
 
       spent : (accepts c s a && not (now a)) ≡ false → stepCode c s t ≡ 0 → now a ≡ true
-      spent x h = ⊎-elim (λ y. y) (λ y. absurd (false≢true (sym x ∙ and-make (accepts c s a) (not (now a)) (eq-eqb _ 0 h) (ap not y)))) (decide (now a))
+      spent x h =
+          ⊎-elim (λ e. e) (λ e. absurd (false≢true (sym x ∙ and-make (accepts c s a) (not (now a)) (eq-eqb _ 0 h) (ap not e)))) (decide (now a))
 
-      step : (b : Bool) → (accepts c s a && not (now a)) ≡ b → Eached now l y (each c deeper s now l y) → (stepCode c s t ≡ 0 → Eached (noted s a now) l then′ (each c deeper s (noted s a now) l then′)) → Eached now (a ∷ l) y (cond b (each c deeper s (noted s a now) l then′) (each c deeper s now l y))
+      step : (b : Bool) → (accepts c s a && not (now a)) ≡ b → Eached now l (each c deeper s now l y)
+          → (stepCode c s t ≡ 0 → Eached (noted a now) l (each c deeper s (noted a now) l then′))
+          → Eached now (a ∷ l) (cond b (each c deeper s (noted a now) l then′) (each c deeper s now l y))
       step true x skip more =
-          let h = eqb-true (stepCode c s t) 0 (and-both (accepts c s a) (not (now a)) x .0) in
-          let E = more h in
-          let T = tested-more c Z s sp K n t (E .more) (tested h) in
+          let E = more (eqb-true (stepCode c s t) 0 (and-both (accepts c s a) (not (now a)) x .0)) in
           record {
             sweep = E .sweep;
-            more = λ q z. E .more q (told h .kept q z);
-            done = λ b m k. ⊎-elim (λ p. subst (λ (b : Key). Tested c sp s n (Holds (each c deeper s (noted s a now) l then′ .tally)) (stepBy s b)) (sym p) T) (λ m′. E .done b m′ k) (List·Memᴰ·cases-cons m);
+            more = λ b e. E .more b (or-left (now b) (sameKey b a) e);
+            done = λ b m h.
+                ⊎-elim
+                (λ p. E .more b (or-right (now b) (sameKey b a) (ap (λ (d : Key). sameKey d a) p ∙ key-itself a)))
+                (λ m′. E .done b m′ h) (List·Memᴰ·cases-cons m);
           }
       step false x skip more =
           record {
             sweep = skip .sweep;
             more = skip .more;
-            done = λ b m k. ⊎-elim (λ p. let h = subst (λ (b : Key). stepCode c s (stepBy s b) ≡ 0) p k in subst (λ (b : Key). Tested c sp s n (Holds (each c deeper s now l y .tally)) (stepBy s b)) (sym p) (tested-more c Z s sp K n t (skip .more) (S .covered a (spent x h) h))) (λ m′. skip .done b m′ k) (List·Memᴰ·cases-cons m);
+            done = λ b m h.
+                ⊎-elim
+                (λ p. skip .more b (subst (λ (d : Key). now d ≡ true) (sym p) (spent x (subst (λ (d : Key). stepCode c s (stepBy s d) ≡ 0) p h))))
+                (λ m′. skip .done b m′ h) (List·Memᴰ·cases-cons m);
           }
 
 -- a node: a sure step alone, unless it is spent; a quiet read with each source; or all
@@ -222,7 +252,8 @@ module _ (c : Case) (Z : Sized c) where
     S : Sweep c sp s n sp (Holds y) (Holds y)
     S = sweep-start c Z s sp K n R
 
-    by-sure : (a : Key) → isSure c (suc n) s a ≡ true → Told c sp s (suc n) (Holds y) (Holds (cond (asleep sp (stepBy s a)) y (deeper (after c s (stepBy s a)) (unwoken s (stepBy s a) sp) y)))
+    by-sure : (a : Key) → isSure c (suc n) s a ≡ true
+        → Told c sp s (suc n) (Holds y) (Holds (cond (asleep sp (stepBy s a)) y (deeper (after c s (stepBy s a)) (unwoken s (stepBy s a) sp) y)))
     by-sure a p = step (asleep sp t) refl
       where
         t : Step
@@ -239,39 +270,49 @@ module _ (c : Case) (Z : Sized c) where
 
         step : (b : Bool) → asleep sp t ≡ b → Told c sp s (suc n) (Holds y) (Holds (cond b y (deeper (after c s t) z y)))
         step true e = told-dead c Z s sp K n t h q e
-        step false e = told-alone c Z s sp K n t h q R z (unwoken-calm s t sp) (right t z y h (rested-after c Z s sp K n R t h z (unwoken-calm s t sp)))
+        step false e =
+            told-alone c Z s sp K n t h q R z (unwoken-calm s t sp) (right t z y h (rested-after c Z s sp K n R t h z (unwoken-calm s t sp)))
 
-    by-quiet : (k e : ℕ) → isQuiet c s (taking k e) ≡ true → Told c sp s (suc n) (Holds y) (Holds (each c deeper s sp (keysOf s k) y .tally))
-    by-quiet k e p =
-        let w = and-both (accepts c s (taking k e)) (quiet c s k) p in
-        let E = eached c Z s sp K n (Holds y) deeper right sp (keysOf s k) y S in
-        told-quiet c Z s sp K n (E .sweep) k e (eqb-true _ 0 (w .0)) (w .1) (λ i h. inr (E .done (taking k i) (source-in c s K k i h) h))
+    module _ (rest : (a : Key) → stepCode c s (stepBy s a) ≡ 0 → restful s a ≡ true) where
+      by-quiet : (k e : ℕ) → isQuiet c s (taking k e) ≡ true → Told c sp s (suc n) (Holds y) (Holds (each c deeper s sp (keysOf s k) y .tally))
+      by-quiet k e p =
+          let w = and-both (accepts c s (taking k e)) (quiet c s k) p in
+          let E = eached c Z s sp K n (Holds y) deeper right rest sp (keysOf s k) y S in
+          told-quiet c Z s sp K n (E .sweep) k e (eqb-true _ 0 (w .0)) (w .1) (λ i h. inl (E .done (taking k i) (source-in c s K k i h) h))
 
-    by-all : Told c sp s (suc n) (Holds y) (Holds (each c deeper s sp (keys c s) y .tally))
-    by-all =
-        let E = eached c Z s sp K n (Holds y) deeper right sp (keys c s) y S in
-        told-all c Z s sp K n (E .sweep) f (λ a h. inr (E .done a (key-in c s K a h) h))
+      by-all : Told c sp s (suc n) (Holds y) (Holds (each c deeper s sp (keys c s) y .tally))
+      by-all =
+          let E = eached c Z s sp K n (Holds y) deeper right rest sp (keys c s) y S in
+          told-all c Z s sp K n (E .sweep) f (λ a h. inl (E .done a (key-in c s K a h) h))
 
-    node-told : (a b : Option Key) → first (isSure c (suc n) s) (keys c s) ≡ a → first (isQuiet c s) (keys c s) ≡ b → Told c sp s (suc n) (Holds y) (Holds (picked c deeper s sp y a b))
+    node-told : (a b : Option Key) → first (isSure c (suc n) s) (keys c s) ≡ a → first (isQuiet c s) (keys c s) ≡ b
+        → Told c sp s (suc n) (Holds y) (Holds (picked c deeper s sp y a b))
     node-told (some a) b p q = by-sure a (first-passes (isSure c (suc n) s) (keys c s) a p)
-    node-told none (some (taking k e)) p q = by-quiet k e (first-passes (isQuiet c s) (keys c s) (taking k e) q)
+    node-told none (some (taking k e)) p q = by-quiet (all-restful c s K (suc n) p) k e (first-passes (isQuiet c s) (keys c s) (taking k e) q)
     node-told none (some (issuing r)) p q = absurd (false≢true (first-passes (isQuiet c s) (keys c s) (issuing r) q))
-    node-told none none p q = by-all
+    node-told none none p q = by-all (all-restful c s K (suc n) p)
 
   visit-told : (n : ℕ) (s : State) (sp : Spent) (y : Tally) → Known c s → Rested c s sp → Told c sp s n (Holds y) (Holds (visit c n s sp y))
   unfolding visit
   visit-told zero s sp y K R = step (finished c s) refl
     where
       step : (b : Bool) → finished c s ≡ b → Told c sp s zero (Holds y) (Holds (cond b (with-outcome (registers c s) y) (with-mark y)))
-      step true f = told-end c s sp (Holds y) (Holds (with-outcome (registers c s) y)) (end-kept y (registers c s)) zero f (end-new y (registers c s)) (List·Memᴰ·head refl)
+      step true f =
+          told-end c s sp (Holds y) (Holds (with-outcome (registers c s) y)) (end-kept y (registers c s)) zero f (end-new y (registers c s))
+          (List·Memᴰ·head refl)
       step false f = told-bound c s sp (Holds y) (Holds (with-mark y)) (mark-kept y) f (mark-new y) refl
-  visit-told (suc n) s sp y K R = step (finished c s) refl (λ f. node-told n (visit c n) s sp y K R f (λ t z x h R′. visit-told n (after c s t) z x (known-after c s t K h) R′) (first (isSure c (suc n) s) (keys c s)) (first (isQuiet c s) (keys c s)) refl refl)
+  visit-told (suc n) s sp y K R =
+      step (finished c s) refl
+      (λ f. node-told n (visit c n) s sp y K R f (λ t z x h R′. visit-told n (after c s t) z x (known-after c s t K h) R′) (first (isSure c (suc n) s) (keys c s)) (first (isQuiet c s) (keys c s)) refl refl)
     where
       node : Tally
       node = picked c (visit c n) s sp y (first (isSure c (suc n) s) (keys c s)) (first (isQuiet c s) (keys c s))
 
-      step : (b : Bool) → finished c s ≡ b → (finished c s ≡ false → Told c sp s (suc n) (Holds y) (Holds node)) → Told c sp s (suc n) (Holds y) (Holds (cond b (with-outcome (registers c s) y) node))
-      step true f more = told-end c s sp (Holds y) (Holds (with-outcome (registers c s) y)) (end-kept y (registers c s)) (suc n) f (end-new y (registers c s)) (List·Memᴰ·head refl)
+      step : (b : Bool) → finished c s ≡ b → (finished c s ≡ false → Told c sp s (suc n) (Holds y) (Holds node))
+          → Told c sp s (suc n) (Holds y) (Holds (cond b (with-outcome (registers c s) y) node))
+      step true f more =
+          told-end c s sp (Holds y) (Holds (with-outcome (registers c s) y)) (end-kept y (registers c s)) (suc n) f (end-new y (registers c s))
+          (List·Memᴰ·head refl)
       step false f more = more f
 
   empty : Tally

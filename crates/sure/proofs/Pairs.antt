@@ -1,25 +1,27 @@
 -- Two issues in either order: the new actions get each other's number. Assumes nothing.
 use mathlib.Core.Path.{_≡_, refl, sym, _∙_, ap, ap₂, subst, fun-ext}
 use mathlib.Core.Logic.{⊎-elim}
-use mathlib.Core.Bool.{Bool, true, false, cond, _&&_, false≢true}
+use mathlib.Core.Bool.{Bool, true, false, cond, _&&_}
 use mathlib.Core.List.{List, [], _∷_, map}
 use mathlib.Core.Option.{Option, none, some}
 use Prim.Native.Nat.{ℕ, suc, _+_, _<_}
 use native.Mathlib.Omega.{arith}
 use lib.Dec.{eqb, ltb, leb}
 use borrow.Author.Tests.{eqb-true, eqb-false}
-use Rattle.words.specs.Small.{isNone, put, orZero}
+use Rattle.words.specs.Small.{put, orZero}
 use Rattle.words.proofs.Bools.{put-same, put-other, and-both, decide, put-swap}
 use Rattle.cases.specs.declared.Instr.{Instr}
 use Rattle.cases.specs.declared.Case.{Case}
 use Rattle.rules.specs.Kinds.{assigns, reads}
-use Rattle.rules.specs.State.{given, Action, valueOf, State, start, standsAt, Name}
+use Rattle.rules.specs.State.{given, Action, State, start, standsAt, Name}
 use Rattle.rules.specs.Issue.{newAction, placeAfter, renamed, issued, earlier, here, next}
 use Rattle.rules.specs.Order.{joinedIf, Order}
 use Rattle.rules.proofs.Orders.{joinedIf-swap, joinedIf-ext}
 use Rattle.rules.proofs.Accepted.{CanIssue}
+use Rattle.sure.proofs.Kept.{values-put, issued-new}
 use Rattle.sure.proofs.Good.{Good, Below, AllBelow, all-map}
-use Rattle.sure.proofs.Issues.{Stays, next-same, carry-issue, new-same, item-high, new-at, item-old}
+use Rattle.sure.proofs.Commits.{joins}
+use Rattle.sure.proofs.Issues.{Stays, next-same, carry-issue, new-same, item-high, item-old}
 use Rattle.sure.proofs.Swap.{swap, View, up, down, stay, view, swap-small, swap-at, swap-next, swapOrder, swapOrder-low, joinedIf-swapped}
 use Rattle.sure.proofs.Renumber.{swapName, swapAction, swapped}
 
@@ -33,9 +35,11 @@ names-low n [] b = refl
 names-low n (x ∷ l) b = ap₂ (λ (y : Name) (m : List Name). y ∷ m) (name-low n x (b .0)) (names-low n l (b .1))
 
 action-low : (n : ℕ) (a : Action) → AllBelow n (a .inputs) → swapAction n a ≡ a
-action-low n a b = λ i. record { proc = a .proc; place = a .place; instr = a .instr; inputs = names-low n (a .inputs) b i; loc = a .loc; result = a .result }
+action-low n a b =
+    λ i. record { proc = a .proc; place = a .place; instr = a .instr; inputs = names-low n (a .inputs) b i; loc = a .loc; result = a .result }
 
-renamed-to : (n i j : ℕ) → swap n i ≡ j → (f : ℕ → Name) → ((k : ℕ) → Below n (f k)) → (o : Option ℕ) (k : ℕ) → renamed f o (given j) k ≡ swapName n (renamed f o (given i) k)
+renamed-to : (n i j : ℕ) → swap n i ≡ j → (f : ℕ → Name) → ((k : ℕ) → Below n (f k)) → (o : Option ℕ) (k : ℕ)
+    → renamed f o (given j) k ≡ swapName n (renamed f o (given i) k)
 renamed-to n i j e f b none k = sym (name-low n (f k) (b k))
 renamed-to n i j e f b (some d) k = step (eqb k d)
   where
@@ -50,12 +54,8 @@ module _ (c : Case) (s : State) (p q : ℕ) (G : Good s) (I : CanIssue c s p) (J
   stays = record {
     places = put-other (s .places) p q _ (λ e. d (sym e));
     names = put-other (s .names) p q _ (λ e. d (sym e));
-    values = values;
+    values = values-put s (issued c s p) (s .count) (newAction c s p) refl (G .fresh (s .count) (omega arith));
   }
-    where
-      values : (n : Name) → isNone (valueOf s n) ≡ false → valueOf (issued c s p) n ≡ valueOf s n
-      values (start v) e = refl
-      values (given j) e = ⊎-elim (λ x. absurd (false≢true (sym e ∙ ap isNone (ap (λ (i : ℕ). s .actions i .result) (eqb-true _ _ x) ∙ G .fresh (s .count) (omega arith))))) (λ x. ap (λ (a : Action). a .result) (put-other (s .actions) (s .count) j (newAction c s p) (eqb-false _ _ x))) (decide (eqb j (s .count)))
 
   pub issue-issue : leb 48 (suc (s .count)) ≡ false → CanIssue c (issued c s p) q
   unfolding issued
@@ -70,7 +70,7 @@ module _ (c : Case) (s : State) (p q : ℕ) (G : Good s) (I : CanIssue c s p) (J
 
   pub at-first : issued c (issued c s p) q .actions (s .count) ≡ newAction c s p
   unfolding issued
-  at-first = put-other (issued c s p .actions) (suc (s .count)) (s .count) (newAction c (issued c s p) q) (λ e. omega arith) ∙ new-at c s p
+  at-first = put-other (issued c s p .actions) (suc (s .count)) (s .count) (newAction c (issued c s p) q) (λ e. omega arith) ∙ issued-new c s p
 
   at-old : (k : ℕ) → (k ≡ s .count → ⊥) → (k ≡ suc (s .count) → ⊥) → issued c (issued c s p) q .actions k ≡ s .actions k
   unfolding issued
@@ -78,7 +78,9 @@ module _ (c : Case) (s : State) (p q : ℕ) (G : Good s) (I : CanIssue c s p) (J
 
   names-second : issued c (issued c s p) q .names q ≡ renamed (s .names q) (assigns (next c s q)) (given (suc (s .count)))
   unfolding issued
-  names-second = put-same (issued c s p .names) q q _ refl ∙ ap₂ (λ (f : ℕ → Name) (i : Instr). renamed f (assigns i) (given (suc (s .count)))) (stays .names) (next-same c s (issued c s p) q stays J)
+  names-second =
+      put-same (issued c s p .names) q q _ refl
+      ∙ ap₂ (λ (f : ℕ → Name) (i : Instr). renamed f (assigns i) (given (suc (s .count)))) (stays .names) (next-same c s (issued c s p) q stays J)
 
   names-first : issued c (issued c s p) q .names p ≡ renamed (s .names p) (assigns (next c s p)) (given (s .count))
   unfolding issued
@@ -89,20 +91,28 @@ module _ (c : Case) (s : State) (p q : ℕ) (G : Good s) (I : CanIssue c s p) (J
   names-old r x y = put-other (issued c s p .names) q r _ y ∙ put-other (s .names) p r _ x
 
   earlier-kept : (l e : ℕ) → e < 8 + suc (s .count) → earlier c (issued c s p) q l e ≡ true → (e < 8 + s .count) × (earlier c s q l e ≡ true)
-  earlier-kept l e h r = ⊎-elim (λ x. absurd (mine (eqb-true _ _ x))) (λ x. (omega (arith, eqb-false e (8 + s .count) x), sym (item-old c s p (eqb e l) f e (eqb-false _ _ x)) ∙ r)) (decide (eqb e (8 + s .count)))
+  earlier-kept l e h r =
+      ⊎-elim (λ x. absurd (mine (eqb-true _ _ x)))
+      (λ x. (omega (arith, eqb-false e (8 + s .count) x), sym (item-old c s p (eqb e l) f e (eqb-false _ _ x)) ∙ r))
+      (decide (eqb e (8 + s .count)))
     where
       f : Action → Bool
       f a = eqb (a .proc) q && standsAt l a
 
       mine : e ≡ 8 + s .count → ⊥
-      mine x = d (eqb-true p q (and-both (eqb p q) (standsAt l (newAction c s p)) (ap f (sym (new-at c s p)) ∙ sym (item-high (eqb e l) f (issued c s p) (s .count) e x) ∙ r) .0))
+      mine x =
+          d
+          (eqb-true p q (and-both (eqb p q) (standsAt l (newAction c s p)) (ap f (sym (issued-new c s p)) ∙ sym (item-high (eqb e l) f (issued c s p) (s .count) e x) ∙ r) .0))
 
   -- the order after both
-  orders-after : (l : ℕ) → issued c (issued c s p) q .orders l ≡ joinedIf (ltb l (c .locs) && standsAt l (newAction c s q)) (joinedIf (ltb l (c .locs) && standsAt l (newAction c s p)) (s .orders l) (8 + s .count) (8 + s .count) (earlier c s p l)) (8 + suc (s .count)) (8 + s .count) (earlier c s q l)
+  orders-after : (l : ℕ)
+      → issued c (issued c s p) q .orders l ≡ joins c l (newAction c s q) (joins c l (newAction c s p) (s .orders l) (8 + s .count) (8 + s .count) (earlier c s p l)) (8 + suc (s .count)) (8 + s .count) (earlier c s q l)
   unfolding issued
   orders-after l =
-      ap (λ (a : Action). joinedIf (ltb l (c .locs) && standsAt l a) (issued c s p .orders l) (8 + suc (s .count)) (8 + suc (s .count)) (earlier c (issued c s p) q l)) new
-      ∙ joinedIf-ext (ltb l (c .locs) && standsAt l (newAction c s q)) (issued c s p .orders l) (8 + suc (s .count)) (8 + suc (s .count)) (8 + s .count) (earlier c (issued c s p) q l) (earlier c s q l) (earlier-kept l) (λ e h r. (omega arith, item-old c s p (eqb e l) (λ a. eqb (a .proc) q && standsAt l a) e (λ x. omega arith) ∙ r))
+      ap (λ (a : Action). joins c l a (issued c s p .orders l) (8 + suc (s .count)) (8 + suc (s .count)) (earlier c (issued c s p) q l)) new
+      ∙ joinedIf-ext (ltb l (c .locs) && standsAt l (newAction c s q)) (issued c s p .orders l) (8 + suc (s .count)) (8 + suc (s .count)) (8 + s .count)
+      (earlier c (issued c s p) q l) (earlier c s q l) (earlier-kept l)
+      (λ e h r. (omega arith, item-old c s p (eqb e l) (λ a. eqb (a .proc) q && standsAt l a) e (λ x. omega arith) ∙ r))
 
 module _ (c : Case) (s : State) (p q : ℕ) (G : Good s) (I : CanIssue c s p) (J : CanIssue c s q) (d : p ≡ q → ⊥) where
   d′ : q ≡ p → ⊥
@@ -114,12 +124,21 @@ module _ (c : Case) (s : State) (p q : ℕ) (G : Good s) (I : CanIssue c s p) (J
   same-actions : (k : ℕ) → issued c (issued c s p) q .actions k ≡ swapAction (s .count) (issued c (issued c s q) p .actions (swap (s .count) k))
   same-actions k = step (view (s .count) k)
     where
-      other : (j : ℕ) (a : Action) → swap (s .count) k ≡ j → issued c (issued c s q) p .actions j ≡ a → AllBelow (s .count) (a .inputs) → swapAction (s .count) (issued c (issued c s q) p .actions (swap (s .count) k)) ≡ a
-      other j a e h b = ap (λ (i : ℕ). swapAction (s .count) (issued c (issued c s q) p .actions i)) e ∙ ap (swapAction (s .count)) h ∙ action-low (s .count) a b
+      other : (j : ℕ) (a : Action) → swap (s .count) k ≡ j → issued c (issued c s q) p .actions j ≡ a → AllBelow (s .count) (a .inputs)
+          → swapAction (s .count) (issued c (issued c s q) p .actions (swap (s .count) k)) ≡ a
+      other j a e h b =
+          ap (λ (i : ℕ). swapAction (s .count) (issued c (issued c s q) p .actions i)) e ∙ ap (swapAction (s .count)) h ∙ action-low (s .count) a b
 
-      step : View (s .count) k (swap (s .count) k) → issued c (issued c s p) q .actions k ≡ swapAction (s .count) (issued c (issued c s q) p .actions (swap (s .count) k))
-      step (up a b) = ap (issued c (issued c s p) q .actions) a ∙ at-first c s p q G I J d ∙ sym (other (suc (s .count)) (newAction c s p) b (at-second c s q p G J I d′) (inputs-new p))
-      step (down a b) = ap (issued c (issued c s p) q .actions) a ∙ at-second c s p q G I J d ∙ sym (other (s .count) (newAction c s q) b (at-first c s q p G J I d′) (inputs-new q))
+      step : View (s .count) k (swap (s .count) k)
+          → issued c (issued c s p) q .actions k ≡ swapAction (s .count) (issued c (issued c s q) p .actions (swap (s .count) k))
+      step (up a b) =
+          ap (issued c (issued c s p) q .actions) a
+          ∙ at-first c s p q G I J d
+          ∙ sym (other (suc (s .count)) (newAction c s p) b (at-second c s q p G J I d′) (inputs-new p))
+      step (down a b) =
+          ap (issued c (issued c s p) q .actions) a
+          ∙ at-second c s p q G I J d
+          ∙ sym (other (s .count) (newAction c s q) b (at-first c s q p G J I d′) (inputs-new q))
       step (stay x y b) = at-old c s p q G I J d k x y ∙ sym (other k (s .actions k) b (at-old c s q p G J I d′ k x y) (G .inputs k))
 
   same-places : issued c (issued c s p) q .places ≡ issued c (issued c s q) p .places
@@ -127,22 +146,33 @@ module _ (c : Case) (s : State) (p q : ℕ) (G : Good s) (I : CanIssue c s p) (J
   same-places =
       ap₂ (λ (i : Instr) (o : Option ℕ). put (issued c s p .places) q (placeAfter i (orZero o))) (next-same c s (issued c s p) q (stays c s p q G I J d) J) (stays c s p q G I J d .places)
       ∙ put-swap (s .places) p q (placeAfter (next c s p) (here c s p)) (placeAfter (next c s q) (here c s q)) d
-      ∙ sym (ap₂ (λ (i : Instr) (o : Option ℕ). put (issued c s q .places) p (placeAfter i (orZero o))) (next-same c s (issued c s q) p (stays c s q p G J I d′) I) (stays c s q p G J I d′ .places))
+      ∙ sym
+      (ap₂ (λ (i : Instr) (o : Option ℕ). put (issued c s q .places) p (placeAfter i (orZero o))) (next-same c s (issued c s q) p (stays c s q p G J I d′) I) (stays c s q p G J I d′ .places))
 
   same-names : (r k : ℕ) → issued c (issued c s p) q .names r k ≡ swapName (s .count) (issued c (issued c s q) p .names r k)
-  same-names r k = ⊎-elim (λ x. at-p (eqb-true r p x)) (λ x. ⊎-elim (λ y. at-q (eqb-true r q y)) (λ y. at-r (eqb-false r p x) (eqb-false r q y)) (decide (eqb r q))) (decide (eqb r p))
+  same-names r k =
+      ⊎-elim (λ x. at-p (eqb-true r p x))
+      (λ x. ⊎-elim (λ y. at-q (eqb-true r q y)) (λ y. at-r (eqb-false r p x) (eqb-false r q y)) (decide (eqb r q)))
+      (decide (eqb r p))
     where
       Goal : ℕ → Type 0
       Goal r = issued c (issued c s p) q .names r k ≡ swapName (s .count) (issued c (issued c s q) p .names r k)
 
       at-p : r ≡ p → Goal r
-      at-p e = subst Goal (sym e) (ap (λ (f : ℕ → Name). f k) (names-first c s p q G I J d) ∙ renamed-to (s .count) (suc (s .count)) (s .count) (swap-next (s .count) (suc (s .count)) refl) (s .names p) (G .named p) (assigns (next c s p)) k ∙ ap (λ (f : ℕ → Name). swapName (s .count) (f k)) (sym (names-second c s q p G J I d′)))
+      at-p e =
+          subst Goal (sym e)
+          (ap (λ (f : ℕ → Name). f k) (names-first c s p q G I J d) ∙ renamed-to (s .count) (suc (s .count)) (s .count) (swap-next (s .count) (suc (s .count)) refl) (s .names p) (G .named p) (assigns (next c s p)) k ∙ ap (λ (f : ℕ → Name). swapName (s .count) (f k)) (sym (names-second c s q p G J I d′)))
 
       at-q : r ≡ q → Goal r
-      at-q e = subst Goal (sym e) (ap (λ (f : ℕ → Name). f k) (names-second c s p q G I J d) ∙ renamed-to (s .count) (s .count) (suc (s .count)) (swap-at (s .count) (s .count) refl) (s .names q) (G .named q) (assigns (next c s q)) k ∙ ap (λ (f : ℕ → Name). swapName (s .count) (f k)) (sym (names-first c s q p G J I d′)))
+      at-q e =
+          subst Goal (sym e)
+          (ap (λ (f : ℕ → Name). f k) (names-second c s p q G I J d) ∙ renamed-to (s .count) (s .count) (suc (s .count)) (swap-at (s .count) (s .count) refl) (s .names q) (G .named q) (assigns (next c s q)) k ∙ ap (λ (f : ℕ → Name). swapName (s .count) (f k)) (sym (names-first c s q p G J I d′)))
 
       at-r : (r ≡ p → ⊥) → (r ≡ q → ⊥) → Goal r
-      at-r x y = ap (λ (f : ℕ → Name). f k) (names-old c s p q G I J d r x y) ∙ sym (name-low (s .count) (s .names r k) (G .named r k)) ∙ ap (λ (f : ℕ → Name). swapName (s .count) (f k)) (sym (names-old c s q p G J I d′ r y x))
+      at-r x y =
+          ap (λ (f : ℕ → Name). f k) (names-old c s p q G I J d r x y)
+          ∙ sym (name-low (s .count) (s .names r k) (G .named r k))
+          ∙ ap (λ (f : ℕ → Name). swapName (s .count) (f k)) (sym (names-old c s q p G J I d′ r y x))
 
   same-orders : (l : ℕ) → issued c (issued c s p) q .orders l ≡ swapOrder (8 + s .count) (issued c (issued c s q) p .orders l)
   same-orders l =

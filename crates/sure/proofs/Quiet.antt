@@ -1,15 +1,15 @@
--- A read whose sources cannot grow may be branched on alone. Assumes nothing.
+-- A read whose sources cannot grow may be taken at once with each of them: outcome-quiet, cut-quiet. Assumes nothing.
 use mathlib.Core.Path.{_≡_, refl, sym, _∙_, ap, ap₂, subst, fun-ext}
 use mathlib.Core.Logic.{_⊎_, inl, inr, ⊎-elim, _↔_}
 use mathlib.Core.Bool.{Bool, true, false, not, cond, _&&_, false≢true}
-use mathlib.Core.List.{List, [], _∷_}
+use mathlib.Core.List.{List}
 use mathlib.Core.Option.{Option, none, some}
 use Prim.Native.Nat.{ℕ, zero, suc, _+_, _-_, _<_}
 use native.Mathlib.Omega.{arith}
 use lib.Dec.{eqb, ltb}
 use borrow.Author.Tests.{leb-false, eqb-true, eqb-false, eq-eqb, not-true}
 use Rattle.words.specs.Small.{isNone, is, orZero, put, any}
-use Rattle.words.proofs.Bools.{fails, below-same, and-make, put-other, decide, put-swap, or-none, below-make, all-at, cond-false, put-same, below-fewer, and-right, and-both}
+use Rattle.words.proofs.Bools.{fails, below-same, and-make, put-other, decide, put-swap, below-make, all-at, cond-false, below-fewer, and-right, and-both}
 use Rattle.cases.specs.Case.{countOf, wordOf}
 use Rattle.cases.specs.declared.Instr.the-variants.{Empty, Read, Write, Local, Branch, Goto, Acquire, Release}
 use Rattle.cases.specs.declared.Instr.{Instr}
@@ -19,7 +19,7 @@ use Rattle.runs.proofs.Walk.{walk}
 use Rattle.rules.specs.Kinds.{reading, labelOf, acquiring, branching, syncs, releasing, kind, writing}
 use Rattle.rules.specs.Commit.{committed, visible, writes, heldBack}
 use Rattle.rules.specs.Result.{finished}
-use Rattle.rules.specs.State.{Action, valueOf, itemValue, State, itemIs, Name, given, waiting, kindOf, start, initial}
+use Rattle.rules.specs.State.{Action, valueOf, itemValue, State, itemIs, waiting, kindOf, initial}
 use Rattle.rules.specs.Step.{after, commit, issue, neither, stepCode, Step}
 use Rattle.rules.specs.Womm.{womm}
 use Rattle.rules.specs.Order.{joinedIf}
@@ -27,9 +27,9 @@ use Rattle.rules.proofs.Closed.{joined-keeps}
 use Rattle.rules.proofs.Orders.{joinedIf-false}
 use Rattle.rules.proofs.Accepted.{still, after-commit, Visible, can-issue, visible-make, can-commit, neither-no, counting-mem, finished-still, between}
 use Rattle.sure.specs.Quiet.{ended, pending, quiet}
-use Rattle.sure.proofs.Kept.{Kept, kept-commit, waits-none, waits-proc, not-waiting, input-same, item-kept, carry, settled-same}
-use Rattle.sure.proofs.Good.{good, good-initial, Good, good-step}
-use Rattle.sure.proofs.Commits.{unbarred, placesBy, holdersBy, item-test}
+use Rattle.sure.proofs.Kept.{holds-kept, ready-kept, queue-put, values-put, Kept, kept-commit, waits-none, waits-proc, input-same, item-kept, carry, settled-same}
+use Rattle.sure.proofs.Good.{turning-at, good, good-initial, Good, good-step}
+use Rattle.sure.proofs.Commits.{acquired, unbarred, placesBy, holdersBy, item-test}
 use Rattle.sure.proofs.Reduce.{Done, Open, done-from, done-to, open-from, open-to}
 use Rattle.sure.proofs.Commit.{settledBy, Commit, input, CanTake, releases, can-take, asStep, resultBy, sees-take, the, self, committedBy, take-ok, item, holds, after-take}
 use Rattle.sure.proofs.Held.{read-only}
@@ -50,7 +50,15 @@ valued v a = record { proc = a .proc; place = a .place; instr = a .instr; inputs
 
 -- the state with the value v for action k
 pub forced : ℕ → ℕ → State → State
-forced k v s = record { count = s .count; actions = put (s .actions) k (valued v (s .actions k)); places = s .places; names = s .names; holders = s .holders; orders = s .orders }
+forced k v s =
+    record {
+      count = s .count;
+      actions = put (s .actions) k (valued v (s .actions k));
+      places = s .places;
+      names = s .names;
+      holders = s .holders;
+      orders = s .orders;
+    }
 
 -- the commit of action k, a read of processor p, is accepted but for its source
 pub record Poised (c : Case) (s : State) (p k : ℕ) : Type 0 where
@@ -88,17 +96,14 @@ module _ (c : Case) (s : State) (p k : ℕ) where
         there = omega (arith, P .there, K .more);
         waits = rw (K .same) (P .waits);
         reads = rw (K .same) (P .reads);
-        free = below-fewer k (holds s (the p k 0)) (holds s′ (the p k 0)) (λ j l e. rw (← K .queue p j l (and-both _ _ e .0), ← K .same) e) (P .free);
-        ready = rw (K .same) (still-ready (s .actions k .inputs) (P .ready));
+        free = below-fewer k (holds s (the p k 0)) (holds s′ (the p k 0)) (holds-kept s s′ (the p k 0) K) (P .free);
+        ready = rw (K .same) (ready-kept s s′ k K (s .actions k .inputs) (P .ready));
       }
-    where
-      still-ready : (l : List Name) → any (λ n. isNone (valueOf s n)) l ≡ false → any (λ n. isNone (valueOf s′ n)) l ≡ false
-      still-ready [] e = refl
-      still-ready (n ∷ l) e = let w = or-none (isNone (valueOf s n)) (any (λ m. isNone (valueOf s m)) l) e in rw (K .values n (w .0), w .0) (still-ready l (w .1))
 
 -- a value for action k, a read in the queue, hinders no other commit
 module _ (c : Case) (s : State) (k v : ℕ) (w : s .actions k .result ≡ none) (r : reading (kindOf (s .actions k)) ≡ true) where
-  forced-test : (b : Bool) (f : Action → Bool) → f (valued v (s .actions k)) ≡ f (s .actions k) → (e : ℕ) → itemIs b f (forced k v s) e ≡ itemIs b f s e
+  forced-test : (b : Bool) (f : Action → Bool) → f (valued v (s .actions k)) ≡ f (s .actions k) → (e : ℕ)
+      → itemIs b f (forced k v s) e ≡ itemIs b f s e
   unfolding forced
   forced-test b f h e = ap (λ (x : Bool). cond (ltb e 8) b x) (step (eqb (e - 8) k) refl)
     where
@@ -113,13 +118,9 @@ module _ (c : Case) (s : State) (k v : ℕ) (w : s .actions k .result ≡ none) 
         record {
           more = omega arith;
           same = put-other (s .actions) k (u .action) (valued v (s .actions k)) d;
-          values = values;
-          queue = λ p j l x. ⊎-elim (λ e. absurd (not-waiting p (valued v (s .actions k)) v refl (subst (λ (a : Action). waiting p a ≡ true) (put-same (s .actions) k j (valued v (s .actions k)) (eqb-true _ _ e)) x))) (λ e. put-other (s .actions) k j (valued v (s .actions k)) (eqb-false _ _ e)) (decide (eqb j k));
+          values = values-put s (forced k v s) k (valued v (s .actions k)) refl w;
+          queue = λ p j l. queue-put (s .actions) k (valued v (s .actions k)) v refl p j;
         }
-      where
-        values : (n : Name) → isNone (valueOf s n) ≡ false → valueOf (forced k v s) n ≡ valueOf s n
-        values (start x) e = refl
-        values (given j) e = ⊎-elim (λ q. absurd (false≢true (sym e ∙ ap isNone (ap (λ (i : ℕ). s .actions i .result) (eqb-true _ _ q) ∙ w)))) (λ q. ap (λ (a : Action). a .result) (put-other (s .actions) k j (valued v (s .actions k)) (eqb-false _ _ q))) (decide (eqb j k))
 
     writes-same : (l e : ℕ) → writes (forced k v s) l e ≡ writes s l e
     writes-same l e = forced-test (eqb e l) (λ a. writing (kindOf a) && eqb (a .loc) l) refl e
@@ -130,7 +131,10 @@ module _ (c : Case) (s : State) (k v : ℕ) (w : s .actions k .result ≡ none) 
         record {
           one = writes-same l e ∙ x .one;
           known = rw (item-kept c s (forced k v s) u kept U e (x .known)) (x .known);
-          newest = below-same (8 + s .count) (between (forced k v s) l i e) (between s l i e) (λ z q. ap (λ (b : Bool). b && (s .orders l e z && s .orders l z i)) (writes-same l z)) ∙ x .newest;
+          newest =
+              below-same (8 + s .count) (between (forced k v s) l i e) (between s l i e)
+              (λ z q. ap (λ (b : Bool). b && (s .orders l e z && s .orders l z i)) (writes-same l z))
+              ∙ x .newest;
           before = x .before;
         }
 
@@ -138,7 +142,8 @@ module _ (c : Case) (s : State) (k v : ℕ) (w : s .actions k .result ≡ none) 
     unfolding forced
     forced-can = carry c s (forced k v s) u kept U (U .allowed) (sees (decide (reading (kindOf (self s u)))))
       where
-        sees : (reading (kindOf (self s u)) ≡ true) ⊎ (reading (kindOf (self s u)) ≡ false) → (reading (kindOf (self s u)) && not (visible c (forced k v s) (self s u .loc) (item u) (u .source))) ≡ false
+        sees : (reading (kindOf (self s u)) ≡ true) ⊎ (reading (kindOf (self s u)) ≡ false)
+            → (reading (kindOf (self s u)) && not (visible c (forced k v s) (self s u .loc) (item u) (u .source))) ≡ false
         sees (inl r) = rw (r, visible-make c (forced k v s) (self s u .loc) (item u) (u .source) (visible-same _ _ _ (sees-take c s u U r))) refl
         sees (inr r) = rw r
 
@@ -157,32 +162,49 @@ module _ (c : Case) (s : State) (k v : ℕ) (w : s .actions k .result ≡ none) 
         actions =
             ap (λ (a : Action). put (put (s .actions) k (valued v (s .actions k))) (u .action) a) (settled-same c s (forced k v s) u kept U)
             ∙ put-swap (s .actions) k (u .action) (valued v (s .actions k)) (settledBy c s u) (λ e. d (sym e))
-            ∙ ap (λ (a : Action). put (put (s .actions) (u .action) (settledBy c s u)) k (valued v a)) (sym (put-other (s .actions) (u .action) k (settledBy c s u) (λ e. d (sym e))))
+            ∙ ap
+            (λ (a : Action). put (put (s .actions) (u .action) (settledBy c s u)) k (valued v a))
+            (sym (put-other (s .actions) (u .action) k (settledBy c s u) (λ e. d (sym e))))
 
         orders : (l : ℕ) → committedBy c (forced k v s) u .orders l ≡ committedBy c s u .orders l
         orders l =
-            ap₂ (λ (a : Action) (x : ℕ). joinedIf (ltb l (c .locs) && acquiring (kindOf a)) (s .orders l) (item u) (8 + s .count) (releases (forced k v s) x)) (kept .same) (input-same c s (forced k v s) u kept U 0)
-            ∙ ap (joinedIf (ltb l (c .locs) && acquiring (kindOf (self s u))) (s .orders l) (item u) (8 + s .count)) (fun-ext λ e. forced-test false (λ a. releasing (kindOf a) && is (input s u 0) (a .result)) (rw (read-only (kindOf (s .actions k)) r .2) refl) e)
+            ap₂ (λ (a : Action) (x : ℕ). acquired c l a (s .orders l) (item u) (8 + s .count) (releases (forced k v s) x)) (kept .same) (input-same c s (forced k v s) u kept U 0)
+            ∙ ap
+            (acquired c l (self s u) (s .orders l) (item u) (8 + s .count))
+            (fun-ext λ e. forced-test false (λ a. releasing (kindOf a) && is (input s u 0) (a .result)) (rw (read-only (kindOf (s .actions k)) r .2) refl) e)
 
 -- an accepted commit of the read gives it the source's value
-forced-by : (c : Case) (s : State) (t : Commit) → reading (kindOf (self s t)) ≡ true → committedBy c s t ≡ forced (t .action) (orZero (itemValue c s (t .source))) s
+forced-by : (c : Case) (s : State) (t : Commit) → reading (kindOf (self s t)) ≡ true
+    → committedBy c s t ≡ forced (t .action) (orZero (itemValue c s (t .source))) s
 unfolding forced committed
 forced-by c s t r =
     let k = read-only (kindOf (self s t)) r in
     λ i. record {
       count = s .count;
       actions = put (s .actions) (t .action) (valued (read-result c s t (self s t .instr) r i) (self s t));
-      places = cond-false (branching (kindOf (self s t))) (put (s .places) (t .proc) (some (cond (eqb (input s t 0) 0) (suc (self s t .place)) (labelOf (self s t .instr))))) (s .places) (k .0) i;
+      places =
+          cond-false (branching (kindOf (self s t)))
+          (put (s .places) (t .proc) (some (cond (eqb (input s t 0) 0) (suc (self s t .place)) (labelOf (self s t .instr)))))
+          (s .places) (k .0) i;
       names = s .names;
-      holders = cond-false (syncs (kindOf (self s t))) (put (s .holders) (input s t 0) (cond (acquiring (kindOf (self s t))) (some (t .proc)) none)) (s .holders) (rw (k .1, k .2) refl) i;
-      orders = fun-ext {f = λ l. joinedIf (ltb l (c .locs) && acquiring (kindOf (self s t))) (s .orders l) (item t) (8 + s .count) (releases s (input s t 0))} {g = s .orders} (λ l. joinedIf-false (ltb l (c .locs) && acquiring (kindOf (self s t))) (s .orders l) (item t) (8 + s .count) (releases s (input s t 0)) (and-right (ltb l (c .locs)) _ (k .1))) i;
+      holders =
+          cond-false (syncs (kindOf (self s t)))
+          (put (s .holders) (input s t 0) (cond (acquiring (kindOf (self s t))) (some (t .proc)) none))
+          (s .holders) (rw (k .1, k .2) refl) i;
+      orders =
+          fun-ext
+          {f = λ l. acquired c l (self s t) (s .orders l) (item t) (8 + s .count) (releases s (input s t 0))}
+          {g = s .orders}
+          (λ l. joinedIf-false (ltb l (c .locs) && acquiring (kindOf (self s t))) (s .orders l) (item t) (8 + s .count) (releases s (input s t 0)) (and-right (ltb l (c .locs)) _ (k .1)))
+          i;
     }
 
 -- the read's sources cannot grow: nothing is issued any more, and no write to its location waits
 pub record Quiet (c : Case) (s : State) (p k : ℕ) : Type 0 where
   pub poised : Poised c s p k
   pub ended : (q : ℕ) → q < c .procs → s .places q ≡ some (countOf c q)
-  pub silent : (j : ℕ) → j < s .count → s .actions j .result ≡ none → writing (kindOf (s .actions j)) ≡ true → s .actions j .loc ≡ s .actions k .loc → ⊥
+  pub silent : (j : ℕ) → j < s .count → s .actions j .result ≡ none → writing (kindOf (s .actions j)) ≡ true → s .actions j .loc ≡ s .actions k .loc
+      → ⊥
 
 -- an accepted read that passes the test `quiet`
 pub quiet-cases : (c : Case) (s : State) (p k e : ℕ) → stepCode c s (commit p k e) ≡ 0 → quiet c s k ≡ true → Quiet c s p k
@@ -193,7 +215,9 @@ quiet-cases c s p k e h q =
     record {
       poised = poised-of c s p k e (a .0) (can-commit c s p k e h);
       ended = λ r l. is-some (countOf c r) (s .places r) (all-at (λ r. is (countOf c r) (s .places r)) (counting-mem (c .procs) 0 r (omega arith) (omega arith)) (b .0));
-      silent = λ j l x y z. false≢true (sym (not-true _ (b .1)) ∙ below-make (s .count) (λ j. pending (s .actions k .loc) (s .actions j)) j l (and-make (isNone (s .actions j .result)) _ (ap isNone x) (and-make (writing (kindOf (s .actions j))) _ y (eq-eqb _ _ z))));
+      silent = λ j l x y z.
+          false≢true
+          (sym (not-true _ (b .1)) ∙ below-make (s .count) (λ j. pending (s .actions k .loc) (s .actions j)) j l (and-make (isNone (s .actions j .result)) _ (ap isNone x) (and-make (writing (kindOf (s .actions j))) _ y (eq-eqb _ _ z))));
     }
   where
     is-some : (n : ℕ) (o : Option ℕ) → is n o ≡ true → o ≡ some n
@@ -202,11 +226,14 @@ quiet-cases c s p k e h q =
 
 module _ (c : Case) (s : State) (p k : ℕ) (G : Good s) (Q : Quiet c s p k) where
   no-issue : (q : ℕ) → stepCode c s (issue q) ≡ 0 → ⊥
-  no-issue q h = let I = can-issue c s q h in omega (arith, leb-false (countOf c q) (orZero (s .places q)) (I .inside), ap orZero (Q .ended q (I .proc)))
+  no-issue q h =
+      let I = can-issue c s q h in omega (arith, leb-false (countOf c q) (orZero (s .places q)) (I .inside), ap orZero (Q .ended q (I .proc)))
 
   -- the read waits: the machine is not finished
   unfinished : finished c s ≡ true → ⊥
-  unfinished f = false≢true (sym (still c s f p (Q .poised .proc) .0) ∙ below-make (s .count) (λ j. waiting p (s .actions j)) k (Q .poised .there) (Q .poised .waits))
+  unfinished f =
+      false≢true
+      (sym (still c s f p (Q .poised .proc) .0) ∙ below-make (s .count) (λ j. waiting p (s .actions j)) k (Q .poised .there) (Q .poised .waits))
 
   module _ (u : Commit) (U : CanTake c s u) (d : k ≡ u .action → ⊥) where
     K : Kept s (committedBy c s u) (k)
@@ -216,15 +243,20 @@ module _ (c : Case) (s : State) (p k : ℕ) (G : Good s) (Q : Quiet c s p k) whe
     unfolding committed
     places-same p l = step (branching (kindOf (self s u))) refl
       where
-        step : (b : Bool) → branching (kindOf (self s u)) ≡ b → cond b (put (s .places) (u .proc) (some (cond (eqb (input s u 0) 0) (suc (self s u .place)) (labelOf (self s u .instr))))) (s .places) p ≡ s .places p
-        step true e = put-other (s .places) (u .proc) p _ λ q. false≢true (sym (ap isNone (Q .ended p l)) ∙ G .halts p (u .action) (record { there = U .there; mine = waits-proc (u .proc) (self s u) (U .waits) ∙ sym q; waits = waits-none (u .proc) (self s u) (U .waits); turns = e }))
+        step : (b : Bool) → branching (kindOf (self s u)) ≡ b
+            → cond b (put (s .places) (u .proc) (some (cond (eqb (input s u 0) 0) (suc (self s u .place)) (labelOf (self s u .instr))))) (s .places) p ≡ s .places p
+        step true e =
+            put-other (s .places) (u .proc) p _
+            λ q. false≢true (sym (ap isNone (Q .ended p l)) ∙ G .halts p (u .action) (turning-at c s u U p (sym q) e))
         step false e = refl
 
-    silent-kept : (j : ℕ) → j < s .count → committedBy c s u .actions j .result ≡ none → writing (kindOf (committedBy c s u .actions j)) ≡ true → committedBy c s u .actions j .loc ≡ s .actions k .loc → ⊥
+    silent-kept : (j : ℕ) → j < s .count → committedBy c s u .actions j .result ≡ none → writing (kindOf (committedBy c s u .actions j)) ≡ true
+        → committedBy c s u .actions j .loc ≡ s .actions k .loc → ⊥
     unfolding committed
     silent-kept j l = step (eqb j (u .action))
       where
-        step : (b : Bool) → cond b (settledBy c s u) (s .actions j) .result ≡ none → writing (kindOf (cond b (settledBy c s u) (s .actions j))) ≡ true → cond b (settledBy c s u) (s .actions j) .loc ≡ s .actions k .loc → ⊥
+        step : (b : Bool) → cond b (settledBy c s u) (s .actions j) .result ≡ none → writing (kindOf (cond b (settledBy c s u) (s .actions j))) ≡ true
+            → cond b (settledBy c s u) (s .actions j) .loc ≡ s .actions k .loc → ⊥
         step true x y z = false≢true (ap isNone x)
         step false x y z = Q .silent j l x y z
 
@@ -265,7 +297,9 @@ module _ (c : Case) (s : State) (p k : ℕ) (G : Good s) (Q : Quiet c s p k) whe
             let w = and-both (writing (kindOf (s .actions (e - 8)))) (eqb (s .actions (e - 8) .loc) (s .actions k .loc)) f in
             Q .silent (e - 8) (omega (arith, U .there)) (ap (λ (j : ℕ). s .actions j .result) x ∙ waits-none (u .proc) (self s u) (U .waits)) (w .0) (eqb-true _ _ (w .1))
 
-        known : (b : Bool) → ltb e 8 ≡ b → isNone (cond b (some (wordOf c e)) (put (s .actions) (u .action) (settledBy c s u) (e - 8) .result)) ≡ false → isNone (cond b (some (wordOf c e)) (s .actions (e - 8) .result)) ≡ false
+        known : (b : Bool) → ltb e 8 ≡ b
+            → isNone (cond b (some (wordOf c e)) (put (s .actions) (u .action) (settledBy c s u) (e - 8) .result)) ≡ false
+            → isNone (cond b (some (wordOf c e)) (s .actions (e - 8) .result)) ≡ false
         known true q h = refl
         known false q h = ap (λ (a : Action). isNone (a .result)) (sym (put-other (s .actions) (u .action) (e - 8) (settledBy c s u) (other q))) ∙ h
 
@@ -305,8 +339,14 @@ module _ (c : Case) where
     forced-after v = after-take c (forced k v s) u ∙ forced-meets c s k v waits (Q .poised .reads) u U d′ ∙ ap (forced k v) (sym (after-take c s u))
 
     -- the read after u moves to the front
-    front : (P : State → Type 0) (R : State → Type 0) → ((x : State) → stepCode c x (asStep u) ≡ 0 → P (after c x (asStep u)) → R x) → Taken P (after c s (asStep u)) p k → Taken R s p k
-    front P R more o = record { source = e; fits = take-ok c s (the p k e) C; then′ = subst R (sym (read-after s p k e Q)) (more (forced k v s) (forced-fits v) (subst P path (o .then′))) }
+    front : (P : State → Type 0) (R : State → Type 0) → ((x : State) → stepCode c x (asStep u) ≡ 0 → P (after c x (asStep u)) → R x)
+        → Taken P (after c s (asStep u)) p k → Taken R s p k
+    front P R more o =
+        record {
+          source = e;
+          fits = take-ok c s (the p k e) C;
+          then′ = subst R (sym (read-after s p k e Q)) (more (forced k v s) (forced-fits v) (subst P path (o .then′)));
+        }
       where
         e : ℕ
         e = o .source
@@ -321,7 +361,9 @@ module _ (c : Case) where
         C′ = can-take c su (the p k e) (subst (λ (x : State). stepCode c x (commit p k e) ≡ 0) (after-take c s u) (o .fits))
 
         sight : Visible c s (s .actions k .loc) (8 + k) e
-        sight = visible-back c s p k G Q u U d (8 + k) e (subst (λ (a : Action). Visible c su (a .loc) (8 + k) e) (K c s p k G Q u U d .same) (sees-take c su (the p k e) C′ (Q′ .poised .reads)))
+        sight =
+            visible-back c s p k G Q u U d (8 + k) e
+            (subst (λ (a : Action). Visible c su (a .loc) (8 + k) e) (K c s p k G Q u U d .same) (sees-take c su (the p k e) C′ (Q′ .poised .reads)))
 
         C : CanTake c s (the p k e)
         C = can-of c s p k (Q .poised) e sight
@@ -366,12 +408,17 @@ module _ (c : Case) where
 
       step : (u : Step) → stepCode c s u ≡ 0 → Done c (after c s u) zero r → Splits s p k u → Taken (λ x. Done c x zero r) s p k
       step u h d (this e) = record { source = e; fits = h; then′ = d }
-      step u h d (that v x) = absurd (unfinished c (after c s (asStep v)) p k (good-step c s G (asStep v) h) (quiet-after s p k v G Q h x) (end (after c s (asStep v)) d))
+      step u h d (that v x) =
+          absurd (unfinished c (after c s (asStep v)) p k (good-step c s G (asStep v) h) (quiet-after s p k v G Q h x) (end (after c s (asStep v)) d))
   read-done (suc n) s p k r G Q (Done.later u h d) = step u h d (λ G′ Q′. read-done n (after c s u) p k r G′ Q′ d) (split s p k u G Q h)
     where
-      step : (u : Step) → stepCode c s u ≡ 0 → Done c (after c s u) (suc n) r → (Good (after c s u) → Quiet c (after c s u) p k → Taken (λ x. Done c x n r) (after c s u) p k) → Splits s p k u → Taken (λ x. Done c x (suc n) r) s p k
+      step : (u : Step) → stepCode c s u ≡ 0 → Done c (after c s u) (suc n) r
+          → (Good (after c s u) → Quiet c (after c s u) p k → Taken (λ x. Done c x n r) (after c s u) p k) → Splits s p k u
+          → Taken (λ x. Done c x (suc n) r) s p k
       step u h d more (this e) = record { source = e; fits = h; then′ = d }
-      step u h d more (that v x) = front s p k v G Q h x (λ x. Done c x n r) (λ x. Done c x (suc n) r) (λ x a b. Done.later (asStep v) a b) (more (good-step c s G (asStep v) h) (quiet-after s p k v G Q h x))
+      step u h d more (that v x) =
+          front s p k v G Q h x (λ x. Done c x n r) (λ x. Done c x (suc n) r) (λ x a b. Done.later (asStep v) a b)
+          (more (good-step c s G (asStep v) h) (quiet-after s p k v G Q h x))
 
   -- an unfinished run takes the read, or runs as well with any value v for it
   read-open : (n : ℕ) (s : State) (p k v : ℕ) → Good s → Quiet c s p k → Open c s (suc n) → Taken (λ x. Open c x n) s p k ⊎ Open c (forced k v s) n
@@ -380,12 +427,15 @@ module _ (c : Case) where
       stands : (u : Step) → stepCode c (forced k v s) u ≡ 0 → Open c (forced k v s) zero
       stands u q = ⊎-elim (λ f. absurd (finished-still c (forced k v s) f u q)) (λ f. Open.now f) (decide (finished c (forced k v s)))
 
-      step : (u : Step) → stepCode c s u ≡ 0 → Open c (after c s u) zero → Splits s p k u → Taken (λ x. Open c x zero) s p k ⊎ Open c (forced k v s) zero
+      step : (u : Step) → stepCode c s u ≡ 0 → Open c (after c s u) zero → Splits s p k u
+          → Taken (λ x. Open c x zero) s p k ⊎ Open c (forced k v s) zero
       step u h d (this e) = inl (record { source = e; fits = h; then′ = d })
       step u h d (that w x) = inr (stands (asStep w) (forced-fits s p k w G Q h x v))
   read-open (suc n) s p k v G Q (Open.later u h d) = step u h d (λ G′ Q′. read-open n (after c s u) p k v G′ Q′ d) (split s p k u G Q h)
     where
-      step : (u : Step) → stepCode c s u ≡ 0 → Open c (after c s u) (suc n) → (Good (after c s u) → Quiet c (after c s u) p k → Taken (λ x. Open c x n) (after c s u) p k ⊎ Open c (forced k v (after c s u)) n) → Splits s p k u
+      step : (u : Step) → stepCode c s u ≡ 0 → Open c (after c s u) (suc n)
+          → (Good (after c s u) → Quiet c (after c s u) p k → Taken (λ x. Open c x n) (after c s u) p k ⊎ Open c (forced k v (after c s u)) n)
+          → Splits s p k u
           → Taken (λ x. Open c x (suc n)) s p k ⊎ Open c (forced k v s) (suc n)
       step u h d more (this e) = inl (record { source = e; fits = h; then′ = d })
       step u h d more (that w x) =
@@ -403,7 +453,10 @@ module _ (c : Case) where
     done-read n r d = read-done n s p k r G Q d
 
     pub open-read : (n : ℕ) → Open c s (suc n) → Taken (λ x. Open c x n) s p k
-    open-read n d = ⊎-elim (λ o. o) (λ o. record { source = e; fits = h; then′ = subst (λ (x : State). Open c x n) (sym (read-after s p k e Q)) o }) (read-open n s p k (orZero (itemValue c s e)) G Q d)
+    open-read n d =
+        ⊎-elim (λ o. o)
+        (λ o. record { source = e; fits = h; then′ = subst (λ (x : State). Open c x n) (sym (read-after s p k e Q)) o })
+        (read-open n s p k (orZero (itemValue c s e)) G Q d)
 
   -- THE THEOREM: at a state that an accepted schedule leads to, an accepted quiet read may be taken at once, with each of its sources
   -- and nothing else, for outcomes and for the cut.
@@ -413,7 +466,8 @@ module _ (c : Case) where
 
     pub outcome-quiet : (r : List ℕ) → OutcomeFrom (womm c) s (suc n) r ↔ Taken (λ x. OutcomeFrom (womm c) x n r) s p k
     outcome-quiet r = (
-      λ o. let x = done-read s p k e G h q n r (done-to c (suc n) s r o) in record { source = x .source; fits = x .fits; then′ = done-from c n (x .then′) },
+      λ o. let x =
+          done-read s p k e G h q n r (done-to c (suc n) s r o) in record { source = x .source; fits = x .fits; then′ = done-from c n (x .then′) },
       λ x. done-from c (suc n) (Done.later (commit p k (x .source)) (x .fits) (done-to c n (after c s (commit p k (x .source))) r (x .then′))),
     )
 

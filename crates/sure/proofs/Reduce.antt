@@ -32,7 +32,8 @@ module _ (c : Case) where
       let o = done-from m d in
       record { schedule = t ∷ o .schedule; end = o .end; short = omega (arith, o .short); leads = leads (womm c) (go h (walk (womm c) (o .schedule) (after c s t) (o .end) (o .leads))); done = o .done; gives = o .gives }
 
-  done-walk : {s e : State} {ts : List Step} (n : ℕ) (r : List ℕ) → Walk (womm c) s ts e → length ts ≤ n → finished c e ≡ true → registers c e ≡ r → Done c s n r
+  done-walk : {s e : State} {ts : List Step} (n : ℕ) (r : List ℕ) → Walk (womm c) s ts e → length ts ≤ n → finished c e ≡ true → registers c e ≡ r
+      → Done c s n r
   done-walk n r (stop q) l f g = Done.now (ap (finished c) q ∙ f) (ap (registers c) q ∙ g)
   done-walk zero r (go h w) l f g = absurd (omega arith)
   done-walk (suc n) r (go {t = t} h w) l f g = Done.later t h (done-walk n r w (omega arith) f g)
@@ -67,14 +68,16 @@ module _ (c : Case) (Good : ℕ → State → Type 0) (Sure : State → Step →
     pub taken : (s : State) (t : Step) → Sure s t → stepCode c s t ≡ 0
     pub diamond : (n : ℕ) (s : State) (t u : Step) → Good (suc (suc n)) s → Sure s t → stepCode c s u ≡ 0 → (u ≡ t) ⊎ Diamond s t u
     -- one step to go: neither it nor t in its place is the last
-    pub last : (s : State) (t u : Step) → Good 1 s → Sure s t → stepCode c s u ≡ 0 → (u ≡ t) ⊎ ((finished c (after c s u) ≡ false) × (finished c (after c s t) ≡ false))
+    pub last : (s : State) (t u : Step) → Good 1 s → Sure s t → stepCode c s u ≡ 0
+        → (u ≡ t) ⊎ ((finished c (after c s u) ≡ false) × (finished c (after c s t) ≡ false))
     pub outcomes : (a b : State) (n : ℕ) (r : List ℕ) → Alike a b → Done c a n r → Done c b n r
     pub cuts : (a b : State) (n : ℕ) → Alike a b → Open c a n → Open c b n
 
   unfinished : (s : State) (t : Step) → stepCode c s t ≡ 0 → finished c s ≡ false
   unfinished s t h = ⊎-elim (λ f. absurd (finished-still c s f t h)) (λ f. f) (decide (finished c s))
 
-  pub diamond-last : (s : State) (t u : Step) → ((v : State) (w : Step) → Sure v w → stepCode c v w ≡ 0) → Diamond s t u → (finished c (after c s u) ≡ false) × (finished c (after c s t) ≡ false)
+  pub diamond-last : (s : State) (t u : Step) → ((v : State) (w : Step) → Sure v w → stepCode c v w ≡ 0) → Diamond s t u
+      → (finished c (after c s u) ≡ false) × (finished c (after c s t) ≡ false)
   diamond-last s t u taken d = (unfinished (after c s u) t (taken (after c s u) t (d .still)), unfinished (after c s t) (d .other) (d .fits))
 
   module _ (law : Laws) where
@@ -87,7 +90,8 @@ module _ (c : Case) (Good : ℕ → State → Type 0) (Sure : State → Step →
 
         end : Done c (after c s u) zero r → finished c (after c s u) ≡ true
         end (Done.now f e) = f
-    done-sure (suc n) s t r g q (Done.later u h d) = ⊎-elim same (λ k. move k (done-sure n (after c s u) t r (law .kept (suc n) s u g h) (k .still) d)) (law .diamond n s t u g q h)
+    done-sure (suc n) s t r g q (Done.later u h d) =
+        ⊎-elim same (λ k. move k (done-sure n (after c s u) t r (law .kept (suc n) s u g h) (k .still) d)) (law .diamond n s t u g q h)
       where
         same : u ≡ t → Done c (after c s t) (suc n) r
         same e = subst (λ (v : Step). Done c (after c s v) (suc n) r) e d
@@ -100,7 +104,8 @@ module _ (c : Case) (Good : ℕ → State → Type 0) (Sure : State → Step →
       where
         same : u ≡ t → Open c (after c s t) zero
         same e = subst (λ (v : Step). Open c (after c s v) zero) e d
-    open-sure (suc n) s t g q (Open.later u h d) = ⊎-elim same (λ k. move k (open-sure n (after c s u) t (law .kept (suc n) s u g h) (k .still) d)) (law .diamond n s t u g q h)
+    open-sure (suc n) s t g q (Open.later u h d) =
+        ⊎-elim same (λ k. move k (open-sure n (after c s u) t (law .kept (suc n) s u g h) (k .still) d)) (law .diamond n s t u g q h)
       where
         same : u ≡ t → Open c (after c s t) (suc n)
         same e = subst (λ (v : Step). Open c (after c s v) (suc n)) e d

@@ -1,4 +1,4 @@
--- Two adjacent actions of different processors may change numbers. Assumes nothing.
+-- 'Actions are numbered as they are issued': two adjacent ones of different processors may change numbers. Assumes nothing.
 use mathlib.Core.Path.{_≡_, refl, sym, _∙_, ap, ap₂, subst, fun-ext}
 use mathlib.Core.Logic.{⊎-elim}
 use mathlib.Core.Bool.{Bool, true, false, not, cond, _&&_, _||_}
@@ -8,9 +8,9 @@ use Prim.Native.Nat.{ℕ, zero, suc, _+_, _-_, _<_}
 use native.Mathlib.Omega.{arith}
 use lib.Dec.{eqb, ltb, leb}
 use lib.ListN.{getD}
-use borrow.Author.Tests.{ltb-true, le-ltb, ltb-false, eqb-true}
+use borrow.Author.Tests.{ltb-true, le-ltb, ltb-false}
 use Rattle.words.specs.Small.{someBelow, isNone, is, put, counting, concatMap, orZero, all, any}
-use Rattle.words.proofs.Bools.{cond-false, below-cases, decide, fails, cond-true, and-both, below-make, put-other}
+use Rattle.words.proofs.Bools.{cond-false, below-cases, decide, fails, cond-true, and-both, below-make}
 use Rattle.cases.specs.Case.{wordOf, countOf}
 use Rattle.cases.specs.declared.Instr.the-variants.{Empty, Read, Write, Local, Branch, Goto, Acquire, Release}
 use Rattle.cases.specs.declared.Instr.{Instr}
@@ -21,10 +21,9 @@ use Rattle.rules.specs.Result.{finished, registerBytes, registers}
 use Rattle.rules.specs.State.{Action, standsAt, itemValue, State, valueOf, given, kindOf, Name, waiting, start}
 use Rattle.rules.specs.Step.{neither, commit, stepCode, after, issue, Step}
 use Rattle.rules.specs.Issue.{earlier, address, next, placeAfter, renamed, here, issued, bound, newAction}
-use Rattle.rules.specs.Order.{joinedIf}
 use Rattle.rules.proofs.Accepted.{between, neither-no, can-issue, CanIssue, issue-ok, after-issue}
-use Rattle.sure.proofs.Kept.{waits-proc}
-use Rattle.sure.proofs.Commits.{placesBy, holdersBy}
+use Rattle.sure.proofs.Kept.{issued-old, committed-field, waits-proc}
+use Rattle.sure.proofs.Commits.{acquired, joins, placesBy, holdersBy}
 use Rattle.sure.proofs.Reduce.{Done, Open}
 use Rattle.sure.proofs.Swap.{swap, swap-twice, swap-low, swap-high, swap-small, swap-eqb, swap-item, swap-before, below-swap, put-swapped, swapOrder, joinedIf-swapped}
 use Rattle.sure.proofs.Commit.{self, resultBy, CanTake, item, holds, asStep, settledBy, Commit, can-take, the, committedBy, releases, take-ok, after-take, input}
@@ -88,16 +87,19 @@ module _ (n : ℕ) (s : State) where
   ready-swap (x ∷ l) = ap₂ (λ (o : Option ℕ) (b : Bool). isNone o || b) (value-swap x) (ready-swap l)
 
   -- an initial write keeps its number
-  item-by : {A : Type 0} (g : ℕ → A) (f : Action → A) → ((a : Action) → f (swapAction n a) ≡ f a) → (e : ℕ) → cond (ltb e 8) (g e) (f (swapped n s .actions (e - 8))) ≡ cond (ltb (swap (8 + n) e) 8) (g (swap (8 + n) e)) (f (s .actions (swap (8 + n) e - 8)))
+  item-by : {A : Type 0} (g : ℕ → A) (f : Action → A) → ((a : Action) → f (swapAction n a) ≡ f a) → (e : ℕ)
+      → cond (ltb e 8) (g e) (f (swapped n s .actions (e - 8))) ≡ cond (ltb (swap (8 + n) e) 8) (g (swap (8 + n) e)) (f (s .actions (swap (8 + n) e - 8)))
   unfolding swapped
   item-by g f h e = ⊎-elim small large (decide (ltb e 8))
     where
-      small : ltb e 8 ≡ true → cond (ltb e 8) (g e) (f (swapAction n (s .actions (swap n (e - 8))))) ≡ cond (ltb (swap (8 + n) e) 8) (g (swap (8 + n) e)) (f (s .actions (swap (8 + n) e - 8)))
+      small : ltb e 8 ≡ true
+          → cond (ltb e 8) (g e) (f (swapAction n (s .actions (swap n (e - 8))))) ≡ cond (ltb (swap (8 + n) e) 8) (g (swap (8 + n) e)) (f (s .actions (swap (8 + n) e - 8)))
       small q =
           let k = swap-small (8 + n) e (omega (arith, ltb-true e 8 q)) in
           cond-true (ltb e 8) _ _ q ∙ ap g (sym k) ∙ sym (cond-true (ltb (swap (8 + n) e) 8) _ _ (ap (λ (x : ℕ). ltb x 8) k ∙ q))
 
-      large : ltb e 8 ≡ false → cond (ltb e 8) (g e) (f (swapAction n (s .actions (swap n (e - 8))))) ≡ cond (ltb (swap (8 + n) e) 8) (g (swap (8 + n) e)) (f (s .actions (swap (8 + n) e - 8)))
+      large : ltb e 8 ≡ false
+          → cond (ltb e 8) (g e) (f (swapAction n (s .actions (swap n (e - 8))))) ≡ cond (ltb (swap (8 + n) e) 8) (g (swap (8 + n) e)) (f (s .actions (swap (8 + n) e - 8)))
       large q =
           let j : e ≡ 8 + (e - 8) = omega (arith, ltb-false e 8 q) in
           let k : swap (8 + n) e ≡ 8 + swap n (e - 8) = ap (swap (8 + n)) j ∙ swap-item n (e - 8) in
@@ -121,19 +123,30 @@ module _ (n : ℕ) (s : State) where
         (ap₂ (λ (x : Bool) (o : Option ℕ). x && not (isNone o)) (writes-swap l e) (value-item c e))
         (ap not (between-swap l i e))
       where
-        between-swap : (l i e : ℕ) → someBelow (8 + s .count) (between (swapped n s) l i e) ≡ someBelow (8 + s .count) (between s l (swap (8 + n) i) (swap (8 + n) e))
-        between-swap l i e = below-swap (8 + n) (8 + s .count) (between (swapped n s) l i e) (between s l (swap (8 + n) i) (swap (8 + n) e)) low (λ w z. ap (λ (x : Bool). x && (s .orders l (swap (8 + n) e) (swap (8 + n) w) && s .orders l (swap (8 + n) w) (swap (8 + n) i))) (writes-swap l w))
-
-    -- the same bound for items
+        between-swap : (l i e : ℕ)
+            → someBelow (8 + s .count) (between (swapped n s) l i e) ≡ someBelow (8 + s .count) (between s l (swap (8 + n) i) (swap (8 + n) e))
+        between-swap l i e =
+            below-swap (8 + n) (8 + s .count) (between (swapped n s) l i e) (between s l (swap (8 + n) i) (swap (8 + n) e)) low
+            (λ w z. ap (λ (x : Bool). x && (s .orders l (swap (8 + n) e) (swap (8 + n) w) && s .orders l (swap (8 + n) w) (swap (8 + n) i))) (writes-swap l w))
 
     module _ (c : Case) (p : ℕ) where
       address-swap : address c (swapped n s) p ≡ address c s p
       unfolding swapped
-      address-swap = ap (λ (l : List Name). valueOf (swapped n s) (getD l 0 (start none))) (map-map (swapName n) (s .names p) (reads (next c s p))) ∙ value-at (bound c s p) 0
+      address-swap =
+          ap (λ (l : List Name). valueOf (swapped n s) (getD l 0 (start none))) (map-map (swapName n) (s .names p) (reads (next c s p)))
+          ∙ value-at (bound c s p) 0
 
       pub issue-swap : CanIssue c s p → CanIssue c (swapped n s) p
       unfolding swapped
-      issue-swap h = record { proc = h .proc; place = h .place; inside = h .inside; room = h .room; known = ap (λ (o : Option ℕ). accesses (kind (next c s p)) && isNone o) address-swap ∙ h .known; low = ap (λ (o : Option ℕ). accesses (kind (next c s p)) && leb (c .locs) (orZero o)) address-swap ∙ h .low }
+      issue-swap h =
+          record {
+            proc = h .proc;
+            place = h .place;
+            inside = h .inside;
+            room = h .room;
+            known = ap (λ (o : Option ℕ). accesses (kind (next c s p)) && isNone o) address-swap ∙ h .known;
+            low = ap (λ (o : Option ℕ). accesses (kind (next c s p)) && leb (c .locs) (orZero o)) address-swap ∙ h .low;
+          }
 
       new-swap : newAction c (swapped n s) p ≡ swapAction n (newAction c s p)
       unfolding swapped
@@ -146,7 +159,8 @@ module _ (n : ℕ) (s : State) where
         result = none;
       }
 
-      renamed-swap : (f : ℕ → Name) (o : Option ℕ) (k : ℕ) → renamed (λ j. swapName n (f j)) o (given (s .count)) k ≡ swapName n (renamed f o (given (s .count)) k)
+      renamed-swap : (f : ℕ → Name) (o : Option ℕ) (k : ℕ)
+          → renamed (λ j. swapName n (f j)) o (given (s .count)) k ≡ swapName n (renamed f o (given (s .count)) k)
       renamed-swap f none k = refl
       renamed-swap f (some d) k = step (eqb k d)
         where
@@ -165,17 +179,23 @@ module _ (n : ℕ) (s : State) where
         orders = fun-ext orders i;
       }
         where
-          actions : (k : ℕ) → put (λ k. swapAction n (s .actions (swap n k))) (s .count) (newAction c (swapped n s) p) k ≡ swapAction n (put (s .actions) (s .count) (newAction c s p) (swap n k))
-          actions k = ap₂ (λ (j : ℕ) (a : Action). put (λ k. swapAction n (s .actions (swap n k))) j a k) (sym (swap-high n (s .count) there)) new-swap ∙ put-swapped n (s .actions) (swapAction n) (s .count) (newAction c s p) k
+          actions : (k : ℕ)
+              → put (λ k. swapAction n (s .actions (swap n k))) (s .count) (newAction c (swapped n s) p) k ≡ swapAction n (put (s .actions) (s .count) (newAction c s p) (swap n k))
+          actions k =
+              ap₂ (λ (j : ℕ) (a : Action). put (λ k. swapAction n (s .actions (swap n k))) j a k) (sym (swap-high n (s .count) there)) new-swap
+              ∙ put-swapped n (s .actions) (swapAction n) (s .count) (newAction c s p) k
 
-          names : (q k : ℕ) (b : Bool) → cond b (renamed (λ j. swapName n (s .names p j)) (assigns (next c s p)) (given (s .count))) (λ j. swapName n (s .names q j)) k ≡ swapName n (cond b (renamed (s .names p) (assigns (next c s p)) (given (s .count))) (s .names q) k)
+          names : (q k : ℕ) (b : Bool)
+              → cond b (renamed (λ j. swapName n (s .names p j)) (assigns (next c s p)) (given (s .count))) (λ j. swapName n (s .names q j)) k ≡ swapName n (cond b (renamed (s .names p) (assigns (next c s p)) (given (s .count))) (s .names q) k)
           names q k true = renamed-swap (s .names p) (assigns (next c s p)) k
           names q k false = refl
 
           orders : (l : ℕ) → issued c (swapped n s) p .orders l ≡ swapped n (issued c s p) .orders l
           orders l =
-              ap₂ (λ (a : Action) (i : ℕ). joinedIf (ltb l (c .locs) && standsAt l a) (swapOrder (8 + n) (s .orders l)) i (8 + s .count) (earlier c (swapped n s) p l)) new-swap (sym (swap-high (8 + n) (8 + s .count) (omega arith)))
-              ∙ joinedIf-swapped (ltb l (c .locs) && standsAt l (newAction c s p)) (8 + n) (s .orders l) (8 + s .count) (8 + s .count) (earlier c s p l) (earlier c (swapped n s) p l) low (λ e z. item-by (λ x. eqb x l) (λ a. eqb (a .proc) p && standsAt l a) (λ a. refl) e)
+              ap₂ (λ (a : Action) (i : ℕ). joins c l a (swapOrder (8 + n) (s .orders l)) i (8 + s .count) (earlier c (swapped n s) p l)) new-swap (sym (swap-high (8 + n) (8 + s .count) (omega arith)))
+              ∙ joinedIf-swapped (ltb l (c .locs) && standsAt l (newAction c s p)) (8 + n) (s .orders l) (8 + s .count) (8 + s .count) (earlier c s p l)
+              (earlier c (swapped n s) p l) low
+              (λ e z. item-by (λ x. eqb x l) (λ a. eqb (a .proc) p && standsAt l a) (λ a. refl) e)
 
   module _ (pair : Pair n s) (c : Case) (t : Commit) (T : CanTake c s t) where
     self-swap : self (swapped n s) (swapCommit n t) ≡ swapAction n (self s t)
@@ -183,20 +203,28 @@ module _ (n : ℕ) (s : State) where
     self-swap = ap (λ (k : ℕ). swapAction n (s .actions k)) (swap-twice n (t .action))
 
     input-swap : (i : ℕ) → input (swapped n s) (swapCommit n t) i ≡ input s t i
-    input-swap i = ap (λ (a : Action). orZero (valueOf (swapped n s) (getD (a .inputs) i (start none)))) self-swap ∙ ap orZero (value-at (self s t .inputs) i)
+    input-swap i =
+        ap (λ (a : Action). orZero (valueOf (swapped n s) (getD (a .inputs) i (start none)))) self-swap ∙ ap orZero (value-at (self s t .inputs) i)
 
     source-swap : eqb (swap (8 + n) (t .source)) 0 ≡ eqb (t .source) 0
     source-swap = swap-eqb (8 + n) (t .source) 0 ∙ ap (λ (x : ℕ). eqb (t .source) x) (swap-small (8 + n) 0 (omega arith))
 
     holds-swap : (j : ℕ) → holds (swapped n s) (swapCommit n t) j ≡ holds s t (swap n j)
     unfolding swapped
-    holds-swap j = ap (λ (a : Action). waiting (t .proc) (s .actions (swap n j)) && heldBy (kindOf a) (kindOf (s .actions (swap n j))) (eqb (s .actions (swap n j) .loc) (a .loc))) self-swap
+    holds-swap j =
+        ap
+        (λ (a : Action). waiting (t .proc) (s .actions (swap n j)) && heldBy (kindOf a) (kindOf (s .actions (swap n j))) (eqb (s .actions (swap n j) .loc) (a .loc)))
+        self-swap
 
     free-swap : someBelow (swap n (t .action)) (holds (swapped n s) (swapCommit n t)) ≡ false
     free-swap = fails (someBelow (t .action) (holds s t)) _ back (T .free)
       where
         back : someBelow (swap n (t .action)) (holds (swapped n s) (swapCommit n t)) ≡ true → someBelow (t .action) (holds s t) ≡ true
-        back h = ⊎-elim (λ l. below-make (t .action) (holds s t) (swap n (r .0)) l k) (λ e. absurd (pair .differ (proc-of (t .action) n (T .waits) (e .0) ∙ sym (proc-of (swap n (r .0)) (suc n) (and-both _ _ k .0) (e .2))))) (swap-before n (r .0) (t .action) (r .1))
+        back h =
+            ⊎-elim
+            (λ l. below-make (t .action) (holds s t) (swap n (r .0)) l k)
+            (λ e. absurd (pair .differ (proc-of (t .action) n (T .waits) (e .0) ∙ sym (proc-of (swap n (r .0)) (suc n) (and-both _ _ k .0) (e .2)))))
+            (swap-before n (r .0) (t .action) (r .1))
           where
             r : (j : ℕ) × (j < swap n (t .action)) × (holds (swapped n s) (swapCommit n t) j ≡ true)
             r = below-cases (swap n (t .action)) (holds (swapped n s) (swapCommit n t)) h
@@ -226,7 +254,9 @@ module _ (n : ℕ) (s : State) where
         sees =
             ap (λ (a : Action). visible c (swapped n s) (a .loc) (item (swapCommit n t)) (swap (8 + n) (t .source))) self-swap
             ∙ visible-swap (pair .there) c (self s t .loc) (8 + swap n (t .action)) (swap (8 + n) (t .source))
-            ∙ ap₂ (visible c s (self s t .loc)) (ap (swap (8 + n)) (sym (swap-item n (t .action))) ∙ swap-twice (8 + n) (8 + t .action)) (swap-twice (8 + n) (t .source))
+            ∙ ap₂ (visible c s (self s t .loc))
+            (ap (swap (8 + n)) (sym (swap-item n (t .action))) ∙ swap-twice (8 + n) (8 + t .action))
+            (swap-twice (8 + n) (t .source))
 
     result-swap : (i : Instr) → resultBy c (swapped n s) (swapCommit n t) i ≡ resultBy c s t i
     result-swap Empty = refl
@@ -259,41 +289,52 @@ module _ (n : ℕ) (s : State) where
       orders = fun-ext orders i;
     }
       where
-        actions : (k : ℕ) → put (λ k. swapAction n (s .actions (swap n k))) (swap n (t .action)) (settledBy c (swapped n s) (swapCommit n t)) k ≡ swapAction n (put (s .actions) (t .action) (settledBy c s t) (swap n k))
-        actions k = ap (λ (a : Action). put (λ k. swapAction n (s .actions (swap n k))) (swap n (t .action)) a k) settled-swap ∙ put-swapped n (s .actions) (swapAction n) (t .action) (settledBy c s t) k
+        actions : (k : ℕ)
+            → put (λ k. swapAction n (s .actions (swap n k))) (swap n (t .action)) (settledBy c (swapped n s) (swapCommit n t)) k ≡ swapAction n (put (s .actions) (t .action) (settledBy c s t) (swap n k))
+        actions k =
+            ap (λ (a : Action). put (λ k. swapAction n (s .actions (swap n k))) (swap n (t .action)) a k) settled-swap
+            ∙ put-swapped n (s .actions) (swapAction n) (t .action) (settledBy c s t) k
 
         orders : (l : ℕ) → committedBy c (swapped n s) (swapCommit n t) .orders l ≡ swapped n (committedBy c s t) .orders l
         orders l =
-            ap₂ (λ (a : Action) (x : ℕ). joinedIf (ltb l (c .locs) && acquiring (kindOf a)) (swapOrder (8 + n) (s .orders l)) (8 + swap n (t .action)) (8 + s .count) (releases (swapped n s) x)) self-swap (input-swap 0)
-            ∙ ap (λ (i : ℕ). joinedIf (ltb l (c .locs) && acquiring (kindOf (self s t))) (swapOrder (8 + n) (s .orders l)) i (8 + s .count) (releases (swapped n s) (input s t 0))) (sym (swap-item n (t .action)))
-            ∙ joinedIf-swapped (ltb l (c .locs) && acquiring (kindOf (self s t))) (8 + n) (s .orders l) (8 + t .action) (8 + s .count) (releases s (input s t 0)) (releases (swapped n s) (input s t 0)) (low (pair .there)) (λ e z. item-by (λ x. false) (λ a. releasing (kindOf a) && is (input s t 0) (a .result)) (λ a. refl) e)
+            ap₂ (λ (a : Action) (x : ℕ). acquired c l a (swapOrder (8 + n) (s .orders l)) (8 + swap n (t .action)) (8 + s .count) (releases (swapped n s) x)) self-swap (input-swap 0)
+            ∙ ap
+            (λ (i : ℕ). acquired c l (self s t) (swapOrder (8 + n) (s .orders l)) i (8 + s .count) (releases (swapped n s) (input s t 0)))
+            (sym (swap-item n (t .action)))
+            ∙ joinedIf-swapped (ltb l (c .locs) && acquiring (kindOf (self s t))) (8 + n) (s .orders l) (8 + t .action) (8 + s .count)
+            (releases s (input s t 0)) (releases (swapped n s) (input s t 0))
+            (low (pair .there))
+            (λ e z. item-by (λ x. false) (λ a. releasing (kindOf a) && is (input s t 0) (a .result)) (λ a. refl) e)
 
   pub finished-swap : suc n < s .count → (c : Case) → finished c (swapped n s) ≡ finished c s
   unfolding finished swapped
-  finished-swap h c = ap (λ (f : ℕ → Bool). all f (counting 0 (c .procs))) (fun-ext λ p. ap (λ (b : Bool). not b && is (countOf c p) (s .places p)) (below-swap n (s .count) (λ k. waiting p (s .actions (swap n k))) (λ k. waiting p (s .actions k)) (λ k l. swap-low n k (s .count) l h) (λ k l. refl)))
+  finished-swap h c =
+      ap (λ (f : ℕ → Bool). all f (counting 0 (c .procs)))
+      (fun-ext λ p. ap (λ (b : Bool). not b && is (countOf c p) (s .places p)) (below-swap n (s .count) (λ k. waiting p (s .actions (swap n k))) (λ k. waiting p (s .actions k)) (λ k l. swap-low n k (s .count) l h) (λ k l. refl)))
 
   pub registers-swap : (c : Case) → registers c (swapped n s) ≡ registers c s
   unfolding registers swapped
-  registers-swap c = ap (λ (f : ℕ → ℕ → Option ℕ). concatMap (λ p. concatMap (λ k. registerBytes (cond (ltb p (c .procs)) (f p k) none)) (counting 0 8)) (counting 0 4)) (fun-ext λ p. fun-ext λ k. value-swap (s .names p k))
+  registers-swap c =
+      ap
+      (λ (f : ℕ → ℕ → Option ℕ). concatMap (λ p. concatMap (λ k. registerBytes (cond (ltb p (c .procs)) (f p k) none)) (counting 0 8)) (counting 0 4))
+      (fun-ext λ p. fun-ext λ k. value-swap (s .names p k))
 
 -- the pair stays
 pair-issue : (n : ℕ) (c : Case) (s : State) (p : ℕ) → Pair n s → Pair n (issued c s p)
 unfolding issued
-pair-issue n c s p h = record { there = omega (arith, h .there); differ = λ e. h .differ (ap (λ (a : Action). a .proc) (sym (old n (omega (arith, h .there)))) ∙ e ∙ ap (λ (a : Action). a .proc) (old (suc n) (omega (arith, h .there)))) }
+pair-issue n c s p h =
+    record {
+      there = omega (arith, h .there);
+      differ = λ e. h .differ (sym (old n (omega (arith, h .there))) ∙ e ∙ old (suc n) (omega (arith, h .there)));
+    }
   where
-    old : (k : ℕ) → k < s .count → put (s .actions) (s .count) (newAction c s p) k ≡ s .actions k
-    old k l = put-other (s .actions) (s .count) k (newAction c s p) (λ e. omega arith)
+    old : (k : ℕ) → k < s .count → issued c s p .actions k .proc ≡ s .actions k .proc
+    old k l = ap (λ (a : Action). a .proc) (issued-old c s p k l)
 
 pair-commit : (n : ℕ) (c : Case) (s : State) (t : Commit) → Pair n s → Pair n (committedBy c s t)
 unfolding committed
-pair-commit n c s t h = record { there = h .there; differ = λ e. h .differ (sym (old n) ∙ e ∙ old (suc n)) }
-  where
-    old : (k : ℕ) → put (s .actions) (t .action) (settledBy c s t) k .proc ≡ s .actions k .proc
-    old k = step (eqb k (t .action)) refl
-      where
-        step : (b : Bool) → eqb k (t .action) ≡ b → cond b (settledBy c s t) (s .actions k) .proc ≡ s .actions k .proc
-        step true e = ap (λ (j : ℕ). s .actions j .proc) (sym (eqb-true _ _ e))
-        step false e = refl
+pair-commit n c s t h =
+    let old = committed-field c s t (λ a. a .proc) refl in record { there = h .there; differ = λ e. h .differ (sym (old n) ∙ e ∙ old (suc n)) }
 
 -- a step and its image
 pub record Image (n : ℕ) (c : Case) (s : State) (t : Step) : Type 0 where

@@ -1,4 +1,4 @@
--- In a case without backward jumps no processor issues more than 12 actions, so that there is always room. Assumes nothing.
+-- Code 23 does not arise in a case without backward jumps: no processor issues more than 12 actions. Assumes nothing.
 use mathlib.Core.Path.{_≡_, refl, sym, _∙_, ap, ap₂, subst}
 use mathlib.Core.Logic.{⊎-elim}
 use mathlib.Core.Bool.{Bool, true, false, cond, _&&_, false≢true}
@@ -20,9 +20,9 @@ use Rattle.rules.specs.Step.{Step, commit, after, issue, neither, stepCode}
 use Rattle.rules.specs.Issue.{placeAfter, newAction, here, issued, next}
 use Rattle.rules.proofs.Accepted.{can-issue, neither-no, CanIssue, after-commit, can-commit, after-issue}
 use Rattle.sure.specs.Sure.{jumping, forward, backward, Sized}
-use Rattle.sure.proofs.Kept.{waits-none, waits-proc}
-use Rattle.sure.proofs.Good.{Good, Turning, turning-issue, none-here, turning-commit}
-use Rattle.sure.proofs.Commit.{committedBy, the, Commit, input, settledBy, self, CanTake}
+use Rattle.sure.proofs.Kept.{issued-new, issued-old, committed-field}
+use Rattle.sure.proofs.Good.{turning-at, Good, Turning, turning-issue, none-here, turning-commit}
+use Rattle.sure.proofs.Commit.{committedBy, the, Commit, input, self, CanTake}
 
 -- of these sizes, and every label is greater than its own place
 pub record Forward (c : Case) : Type 0 where
@@ -79,7 +79,8 @@ place-ahead (Acquire a) i j h e = omega (arith, ap orZero e)
 place-ahead (Release a) i j h e = omega (arith, ap orZero e)
 
 module _ (c : Case) (F : Forward c) (s : State) (G : Good s) (N : Counted s) where
-  inside : (p : ℕ) → CanIssue c s p → (used (s .actions) (s .count) p ≤ here c s p) × (here c s p < countOf c p) × (used (s .actions) (s .count) p ≤ 11)
+  inside : (p : ℕ) → CanIssue c s p
+      → (used (s .actions) (s .count) p ≤ here c s p) × (here c s p < countOf c p) × (used (s .actions) (s .count) p ≤ 11)
   inside p I =
       let a = N .placed p (here c s p) (known (s .places p) (I .place)) in
       let b = leb-false (countOf c p) (here c s p) (I .inside) in
@@ -87,7 +88,8 @@ module _ (c : Case) (F : Forward c) (s : State) (G : Good s) (N : Counted s) whe
 
   -- two processors that can issue leave room for two
   pub room : (p q : ℕ) → p < 4 → q < 4 → (p ≡ q → ⊥) → CanIssue c s p → CanIssue c s q → leb 48 (suc (s .count)) ≡ false
-  room p q lp lq d I J = lt-leb 48 (suc (s .count)) (omega (arith, each 0, each 1, each 2, each 3, ones p lp, ones q lq, used-all (s .actions) (s .count) (N .procs)))
+  room p q lp lq d I J =
+      lt-leb 48 (suc (s .count)) (omega (arith, each 0, each 1, each 2, each 3, ones p lp, ones q lq, used-all (s .actions) (s .count) (N .procs)))
     where
       each : (r : ℕ) → used (s .actions) (s .count) r + one p r + one q r ≤ 12
       each r = step (eqb p r) (eqb q r) refl refl
@@ -99,17 +101,11 @@ module _ (c : Case) (F : Forward c) (s : State) (G : Good s) (N : Counted s) whe
           step false false x y = omega (arith, N .most r)
 
   module _ (p : ℕ) (lp : p < 4) (I : CanIssue c s p) where
-    old : (k : ℕ) → k < s .count → issued c s p .actions k ≡ s .actions k
-    unfolding issued
-    old k l = put-other (s .actions) (s .count) k (newAction c s p) (λ e. omega arith)
-
-    latest : issued c s p .actions (s .count) ≡ newAction c s p
-    unfolding issued
-    latest = put-same (s .actions) (s .count) (s .count) (newAction c s p) refl
-
     used-issue : (q : ℕ) → used (issued c s p .actions) (suc (s .count)) q ≡ one p q + used (s .actions) (s .count) q
     unfolding used
-    used-issue q = ap₂ (λ (a : Action) (x : ℕ). one (a .proc) q + x) latest (used-same (issued c s p .actions) (s .actions) (s .count) q (λ k l. ap (λ (a : Action). a .proc) (old k l)))
+    used-issue q =
+        ap₂ (λ (a : Action) (x : ℕ). one (a .proc) q + x) (issued-new c s p)
+        (used-same (issued c s p .actions) (s .actions) (s .count) q (λ k l. ap (λ (a : Action). a .proc) (issued-old c s p k l)))
 
     used-mine : used (issued c s p .actions) (suc (s .count)) p ≡ suc (used (s .actions) (s .count) p)
     used-mine = omega (arith, used-issue p, cond-true {A = ℕ} (eqb p p) 1 0 (eq-eqb p p refl))
@@ -118,43 +114,54 @@ module _ (c : Case) (F : Forward c) (s : State) (G : Good s) (N : Counted s) whe
     used-other q d = omega (arith, used-issue q, cond-false {A = ℕ} (eqb p q) 1 0 (ne-eqb p q (λ e. d (sym e))))
 
     -- the new action, or an old one
-    split : (P : Action → Type 0) → P (newAction c s p) → (k : ℕ) → k < suc (s .count) → (k < s .count → P (s .actions k)) → P (issued c s p .actions k)
-    split P new k l h = ⊎-elim (λ e. subst (λ (j : ℕ). P (issued c s p .actions j)) (sym (eqb-true k (s .count) e)) (subst P (sym latest) new)) (λ e. let m : k < s .count = omega (arith, eqb-false k (s .count) e) in subst P (sym (old k m)) (h m)) (decide (eqb k (s .count)))
+    split : (P : Action → Type 0) → P (newAction c s p) → (k : ℕ) → k < suc (s .count) → (k < s .count → P (s .actions k))
+        → P (issued c s p .actions k)
+    split P new k l h =
+        ⊎-elim
+        (λ e. subst (λ (j : ℕ). P (issued c s p .actions j)) (sym (eqb-true k (s .count) e)) (subst P (sym (issued-new c s p)) new))
+        (λ e. let m : k < s .count = omega (arith, eqb-false k (s .count) e) in subst P (sym (issued-old c s p k m)) (h m))
+        (decide (eqb k (s .count)))
 
     pub counted-issue : Counted (issued c s p)
     unfolding issued
     counted-issue =
         record {
           procs = λ k l. split (λ a. a .proc < 4) lp k l (N .procs k);
-          placed = λ q i e. ⊎-elim (λ x. placed-mine q i (eqb-true q p x) e) (λ x. subst (λ (n : ℕ). n ≤ i) (sym (used-other q (eqb-false q p x))) (N .placed q i (sym (put-other (s .places) p q _ (eqb-false q p x)) ∙ e))) (decide (eqb q p));
+          placed = λ q i e.
+              ⊎-elim (λ x. placed-mine q i (eqb-true q p x) e)
+              (λ x. subst (λ (n : ℕ). n ≤ i) (sym (used-other q (eqb-false q p x))) (N .placed q i (sym (put-other (s .places) p q _ (eqb-false q p x)) ∙ e)))
+              (decide (eqb q p));
           turned = λ q k w. ⊎-elim (λ x. turned-new q k (x .0) (x .1)) (λ v. turned-old q k v) (turning-issue c s G p I q k w);
           ahead = λ k l. split (λ a. branching (kindOf a) ≡ true → a .place < labelOf (a .instr)) (λ b. jumps (branch-jumps (kind (next c s p)) b)) k l (N .ahead k);
-          most = λ q. ⊎-elim (λ x. omega (arith, ap (used (issued c s p .actions) (suc (s .count))) (eqb-true q p x), used-mine, inside p I .2)) (λ x. subst (λ (n : ℕ). n ≤ 12) (sym (used-other q (eqb-false q p x))) (N .most q)) (decide (eqb q p));
+          most = λ q.
+              ⊎-elim
+              (λ x. omega (arith, ap (used (issued c s p .actions) (suc (s .count))) (eqb-true q p x), used-mine, inside p I .2))
+              (λ x. subst (λ (n : ℕ). n ≤ 12) (sym (used-other q (eqb-false q p x))) (N .most q))
+              (decide (eqb q p));
         }
       where
         jumps : jumping (kind (next c s p)) ≡ true → here c s p < labelOf (next c s p)
         jumps = F .ahead p (here c s p) (I .proc) (inside p I .1)
 
-        placed-mine : (q i : ℕ) → q ≡ p → put (s .places) p (placeAfter (next c s p) (here c s p)) q ≡ some i → used (issued c s p .actions) (suc (s .count)) q ≤ i
-        placed-mine q i x e = omega (arith, ap (used (issued c s p .actions) (suc (s .count))) x, used-mine, inside p I .0, place-ahead (next c s p) (here c s p) i jumps (sym (put-same (s .places) p q (placeAfter (next c s p) (here c s p)) x) ∙ e))
+        placed-mine : (q i : ℕ) → q ≡ p → put (s .places) p (placeAfter (next c s p) (here c s p)) q ≡ some i
+            → used (issued c s p .actions) (suc (s .count)) q ≤ i
+        placed-mine q i x e =
+            omega
+            (arith, ap (used (issued c s p .actions) (suc (s .count))) x, used-mine, inside p I .0, place-ahead (next c s p) (here c s p) i jumps (sym (put-same (s .places) p q (placeAfter (next c s p) (here c s p)) x) ∙ e))
 
         turned-new : (q k : ℕ) → k ≡ s .count → q ≡ p → used (issued c s p .actions) (suc (s .count)) q ≤ suc (issued c s p .actions k .place)
-        turned-new q k x y = omega (arith, ap (used (issued c s p .actions) (suc (s .count))) y, used-mine, inside p I .0, ap (λ (a : Action). a .place) (ap (issued c s p .actions) x ∙ latest))
+        turned-new q k x y =
+            omega
+            (arith, ap (used (issued c s p .actions) (suc (s .count))) y, used-mine, inside p I .0, ap (λ (a : Action). a .place) (ap (issued c s p .actions) x ∙ (issued-new c s p)))
 
         turned-old : (q k : ℕ) → Turning s q k → used (issued c s p .actions) (suc (s .count)) q ≤ suc (issued c s p .actions k .place)
-        turned-old q k v = omega (arith, used-other q (λ e. none-here c s G p I k (subst (λ (x : ℕ). Turning s x k) e v)), N .turned q k v, ap (λ (a : Action). a .place) (old k (v .there)))
+        turned-old q k v =
+            omega
+            (arith, used-other q (λ e. none-here c s G p I k (subst (λ (x : ℕ). Turning s x k) e v)), N .turned q k v, ap (λ (a : Action). a .place) (issued-old c s p k (v .there)))
 
   module _ (t : Commit) (T : CanTake c s t) where
-    like : {X : Type 0} (f : Action → X) → f (settledBy c s t) ≡ f (self s t) → (k : ℕ) → f (committedBy c s t .actions k) ≡ f (s .actions k)
-    unfolding committed
-    like f h k = step (eqb k (t .action)) refl
-      where
-        step : (b : Bool) → eqb k (t .action) ≡ b → f (cond b (settledBy c s t) (s .actions k)) ≡ f (s .actions k)
-        step true e = h ∙ ap (λ (j : ℕ). f (s .actions j)) (sym (eqb-true _ _ e))
-        step false e = refl
-
     used-commit : (q : ℕ) → used (committedBy c s t .actions) (s .count) q ≡ used (s .actions) (s .count) q
-    used-commit q = used-same (committedBy c s t .actions) (s .actions) (s .count) q (λ k l. like (λ a. a .proc) refl k)
+    used-commit q = used-same (committedBy c s t .actions) (s .actions) (s .count) q (λ k l. committed-field c s t (λ a. a .proc) refl k)
 
     placed-commit : (q i : ℕ) → committedBy c s t .places q ≡ some i → used (s .actions) (s .count) q ≤ i
     unfolding committed
@@ -168,20 +175,29 @@ module _ (c : Case) (F : Forward c) (s : State) (G : Good s) (N : Counted s) whe
         further h false = N .ahead (t .action) (T .there) h
 
         mine : branching (kindOf (self s t)) ≡ true → q ≡ t .proc → to ≡ i → used (s .actions) (s .count) q ≤ i
-        mine h x y = omega (arith, N .turned q (t .action) (record { there = T .there; mine = waits-proc (t .proc) (self s t) (T .waits) ∙ sym x; waits = waits-none (t .proc) (self s t) (T .waits); turns = h }), further h (eqb (input s t 0) 0))
+        mine h x y =
+            omega
+            (arith, N .turned q (t .action) (turning-at c s t T q (sym x) h), further h (eqb (input s t 0) 0))
 
-        step : (b : Bool) → branching (kindOf (self s t)) ≡ b → cond b (put (s .places) (t .proc) (some to)) (s .places) q ≡ some i → used (s .actions) (s .count) q ≤ i
-        step true h e = ⊎-elim (λ x. mine h (eqb-true _ _ x) (ap orZero (sym (put-same (s .places) (t .proc) q (some to) (eqb-true _ _ x)) ∙ e))) (λ x. N .placed q i (sym (put-other (s .places) (t .proc) q (some to) (eqb-false _ _ x)) ∙ e)) (decide (eqb q (t .proc)))
+        step : (b : Bool) → branching (kindOf (self s t)) ≡ b → cond b (put (s .places) (t .proc) (some to)) (s .places) q ≡ some i
+            → used (s .actions) (s .count) q ≤ i
+        step true h e =
+            ⊎-elim
+            (λ x. mine h (eqb-true _ _ x) (ap orZero (sym (put-same (s .places) (t .proc) q (some to) (eqb-true _ _ x)) ∙ e)))
+            (λ x. N .placed q i (sym (put-other (s .places) (t .proc) q (some to) (eqb-false _ _ x)) ∙ e))
+            (decide (eqb q (t .proc)))
         step false h e = N .placed q i e
 
     pub counted-commit : Counted (committedBy c s t)
     unfolding committed
     counted-commit =
         record {
-          procs = λ k l. subst (λ (x : ℕ). x < 4) (sym (like (λ a. a .proc) refl k)) (N .procs k l);
+          procs = λ k l. subst (λ (x : ℕ). x < 4) (sym (committed-field c s t (λ a. a .proc) refl k)) (N .procs k l);
           placed = λ q i e. subst (λ (n : ℕ). n ≤ i) (sym (used-commit q)) (placed-commit q i e);
-          turned = λ q k w. omega (arith, used-commit q, N .turned q k (turning-commit c s G t T q k w .1), like (λ a. a .place) refl k);
-          ahead = λ k l b. omega (arith, N .ahead k l (sym (like (λ a. branching (kindOf a)) refl k) ∙ b), like (λ a. a .place) refl k, like (λ a. labelOf (a .instr)) refl k);
+          turned = λ q k w. omega (arith, used-commit q, N .turned q k (turning-commit c s G t T q k w .1), committed-field c s t (λ a. a .place) refl k);
+          ahead = λ k l b.
+              omega
+              (arith, N .ahead k l (sym (committed-field c s t (λ a. branching (kindOf a)) refl k) ∙ b), committed-field c s t (λ a. a .place) refl k, committed-field c s t (λ a. labelOf (a .instr)) refl k);
           most = λ q. subst (λ (n : ℕ). n ≤ 12) (sym (used-commit q)) (N .most q);
         }
 
@@ -211,7 +227,10 @@ unfolding forward
 forward-cases c z h = record { sized = z; ahead = λ p i m g j. leb-false (labelOf (instrAt c p i)) i (ahead p i m g j) }
   where
     none-back : (p i : ℕ) → p < c .procs → i < countOf c p → backward (instrAt c p i) i ≡ false
-    none-back p i m g = below-none (countOf c p) (λ j. backward (instrAt c p j) j) (below-none (c .procs) (λ q. someBelow (countOf c q) (λ j. backward (instrAt c q j) j)) (not-true _ h) p m) i g
+    none-back p i m g =
+        below-none (countOf c p) (λ j. backward (instrAt c p j) j)
+        (below-none (c .procs) (λ q. someBelow (countOf c q) (λ j. backward (instrAt c q j) j)) (not-true _ h) p m)
+        i g
 
     ahead : (p i : ℕ) → p < c .procs → i < countOf c p → jumping (kind (instrAt c p i)) ≡ true → leb (labelOf (instrAt c p i)) i ≡ false
     ahead p i m g j = sym (ap (λ (b : Bool). b && leb (labelOf (instrAt c p i)) i) j) ∙ none-back p i m g

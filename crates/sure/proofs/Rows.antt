@@ -1,6 +1,6 @@
 -- Spent steps as words: what noting one changes, and what a step leaves spent. Assumes nothing.
 use mathlib.Core.Path.{_≡_, refl, sym, _∙_, ap, fun-ext}
-use mathlib.Core.Bool.{Bool, true, false, _&&_, _||_, false≢true}
+use mathlib.Core.Bool.{Bool, true, false, _&&_, _||_, false≢true, cond}
 use mathlib.Core.List.{List}
 use mathlib.Core.Logic.{_⊎_, inl, inr, ⊎-elim}
 use Prim.Native.Nat.{ℕ, zero, suc, _<_, _^_}
@@ -11,7 +11,7 @@ use lib.Dec.{eqb}
 use borrow.Author.Tests.{eqb-true, eqb-false, ne-eqb, lt-leb}
 use Rattle.words.specs.Sets.{has}
 use Rattle.words.proofs.Sets.{has-or, has-one, has-zero}
-use Rattle.words.proofs.Bools.{and-left, or-false, or-cases, and-both}
+use Rattle.words.proofs.Bools.{and-left, or-false, or-cases, and-both, cond-false, cond-true, fails}
 use Rattle.rules.specs.Kinds.{acquiring}
 use Rattle.rules.specs.State.{kindOf, State}
 use Rattle.rules.specs.Step.{issue, commit}
@@ -33,7 +33,8 @@ rows-fresh n = fun-ext each
 
 module _ (rows : List ℕ) (issues : ℕ) where
   -- the sources v of action k, too
-  pub rows-note : (k v : ℕ) → k < length rows → (j e : ℕ) → spentBy (set rows k (bitOr (getD rows k 0) v)) issues (taking j e) ≡ (spentBy rows issues (taking j e) || (eqb j k && has v e))
+  pub rows-note : (k v : ℕ) → k < length rows → (j e : ℕ)
+      → spentBy (set rows k (bitOr (getD rows k 0) v)) issues (taking j e) ≡ (spentBy rows issues (taking j e) || (eqb j k && has v e))
   rows-note k v h j e = step (eqb j k) refl
     where
       end : (x : Bool) → x ≡ (x || false)
@@ -54,7 +55,8 @@ module _ (rows : List ℕ) (issues : ℕ) where
   issues-note p q = has-or issues (2 ^ p) q ∙ ap (λ (b : Bool). has issues q || b) (has-one p q)
 
   -- noting one source, or one issue, spends nothing else
-  pub rows-add : (k e : ℕ) → k < length rows → (b : Key) → spentBy (set rows k (bitOr (getD rows k 0) (2 ^ e))) issues b ≡ true → (spentBy rows issues b ≡ true) ⊎ (b ≡ taking k e)
+  pub rows-add : (k e : ℕ) → k < length rows → (b : Key) → spentBy (set rows k (bitOr (getD rows k 0) (2 ^ e))) issues b ≡ true
+      → (spentBy rows issues b ≡ true) ⊎ (b ≡ taking k e)
   rows-add k e h (taking j f) x = ⊎-elim (λ y. inl y) (λ y. inr (new y)) (or-cases (has (getD rows j 0) f) _ (sym (rows-note k (2 ^ e) h j f) ∙ x))
     where
       new : (eqb j k && has (2 ^ e) f) ≡ true → taking j f ≡ taking k e
@@ -63,7 +65,8 @@ module _ (rows : List ℕ) (issues : ℕ) where
 
   pub issues-add : (p : ℕ) → (b : Key) → spentBy rows (bitOr issues (2 ^ p)) b ≡ true → (spentBy rows issues b ≡ true) ⊎ (b ≡ issuing p)
   issues-add p (taking j f) x = inl x
-  issues-add p (issuing q) x = ⊎-elim (λ y. inl y) (λ y. inr (ap issuing (eqb-true q p y))) (or-cases (has issues q) (eqb q p) (sym (issues-note p q) ∙ x))
+  issues-add p (issuing q) x =
+      ⊎-elim (λ y. inl y) (λ y. inr (ap issuing (eqb-true q p y))) (or-cases (has issues q) (eqb q p) (sym (issues-note p q) ∙ x))
 
   module _ (s : State) where
     -- the commit of no acquire wakes nothing
@@ -72,14 +75,28 @@ module _ (rows : List ℕ) (issues : ℕ) where
     calm-commit p k e a (issuing q) h = (h, refl)
 
     -- that of an acquire wakes the acquires of its location: `less` are the words without theirs
-    pub calm-acquire : (p k e : ℕ) (less : List ℕ) → ((j f : ℕ) → has (getD less j 0) f ≡ true → (has (getD rows j 0) f ≡ true) × (rivals s (s .actions k) (s .actions j) ≡ false)) → Calm s (commit p k e) (spentBy rows issues) (spentBy less issues)
+    pub calm-acquire : (p k e : ℕ) (less : List ℕ)
+        → ((j f : ℕ) → has (getD less j 0) f ≡ true → (has (getD rows j 0) f ≡ true) × (rivals s (s .actions k) (s .actions j) ≡ false))
+        → Calm s (commit p k e) (spentBy rows issues) (spentBy less issues)
     calm-acquire p k e less g (taking j f) h = g j f h
     calm-acquire p k e less g (issuing q) h = (h, refl)
+
+    -- the same where the words that pass the test b are cleared, among them those of the rivals
+    pub calm-cleared : (p k e : ℕ) (less : List ℕ) (b : ℕ → Bool) → ((j : ℕ) → getD less j 0 ≡ cond (b j) 0 (getD rows j 0))
+        → ((j : ℕ) → rivals s (s .actions k) (s .actions j) ≡ true → b j ≡ true) → Calm s (commit p k e) (spentBy rows issues) (spentBy less issues)
+    calm-cleared p k e less b E r = calm-acquire p k e less (λ j f. step j f (b j) refl)
+      where
+        step : (j f : ℕ) (x : Bool) → b j ≡ x → has (getD less j 0) f ≡ true
+            → (has (getD rows j 0) f ≡ true) × (rivals s (s .actions k) (s .actions j) ≡ false)
+        step j f true q h = absurd (false≢true (sym (ap (λ (w : ℕ). has w f) (E j ∙ cond-true (b j) 0 _ q) ∙ has-zero f) ∙ h))
+        step j f false q h =
+            (sym (ap (λ (w : ℕ). has w f) (E j ∙ cond-false (b j) 0 _ q)) ∙ h, fails (b j) (rivals s (s .actions k) (s .actions j)) (r j) q)
 
     -- an issue that is not spent wakes no other, while there is room for one more
     pub calm-issue : (p : ℕ) → has issues p ≡ false → suc (s .count) < 48 → Calm s (issue p) (spentBy rows issues) (spentBy rows issues)
     calm-issue p n l (taking j f) h = (h, refl)
-    calm-issue p n l (issuing q) h = (h, or-false (eqb q p) _ (ne-eqb q p (λ e. false≢true (sym n ∙ ap (has issues) (sym e) ∙ h))) (lt-leb 48 (suc (s .count)) l))
+    calm-issue p n l (issuing q) h =
+        (h, or-false (eqb q p) _ (ne-eqb q p (λ e. false≢true (sym n ∙ ap (has issues) (sym e) ∙ h))) (lt-leb 48 (suc (s .count)) l))
 
     -- where it takes the last room, it wakes every issue
     pub calm-last : (p : ℕ) → Calm s (issue p) (spentBy rows issues) (spentBy rows 0)

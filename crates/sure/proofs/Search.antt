@@ -18,7 +18,8 @@ use Rattle.sure.specs.Spent.{wakes, Key, stepBy, Spent, unwoken, fresh}
 use Rattle.sure.proofs.Good.{Good}
 use Rattle.sure.proofs.Reduce.{Done, Open}
 use Rattle.sure.proofs.Quiet.{Taken, done-read, open-read}
-use Rattle.sure.proofs.Whole.{Alike, Reached, reached, reached-initial, done-alone, open-alone}
+use Rattle.sure.proofs.Moves.{Alike}
+use Rattle.sure.proofs.Whole.{Reached, reached, reached-initial, done-alone, open-alone}
 use Rattle.sure.proofs.Firm.{Firm, firm-step, firm-initial}
 use Rattle.sure.proofs.Spent.{Rested, Through, Else, to-front}
 use Rattle.sure.proofs.Whole
@@ -112,5 +113,9 @@ module _ (c : Case) (P : State → ℕ → Type 0) (L : Runs c P) (s : State) (n
   covers-start a h f p = inr (record { key = a; rests = h; fits = f; then′ = p })
 
   -- the branch of t, with z of what is spent by now, and nothing that t wakes
-  pub tried-branch : Known c s → (now : Spent) → Rested c s now → Covers c P sp s n X now → (t : Step) → stepCode c s t ≡ 0 → (z : Spent) → Calm s t now z → (P (after c s t) n → X ⊎ Else c z P (after c s t) n) → Tried c P sp s n X t
-  tried-branch K now R C t h z N f p = ⊎-elim (λ x. inl x) (λ o. let b = to-front c s (K .reached .good) (K .firm) t h z (λ a x. R a (N a x .0)) (λ a x. N a x .1) P (λ x m. L .later x t m) (L .alike) n o in C (b .key) (N (b .key) (b .rests) .0) (b .fits) (b .then′)) (f p)
+  pub tried-branch : Known c s → (now : Spent) → Rested c s now → Covers c P sp s n X now → (t : Step) → stepCode c s t ≡ 0 → (z : Spent)
+      → Calm s t now z → (P (after c s t) n → X ⊎ Else c z P (after c s t) n) → Tried c P sp s n X t
+  tried-branch K now R C t h z N f p =
+      ⊎-elim (λ x. inl x)
+      (λ o. let b = to-front c s (K .reached .good) (K .firm) t h z (λ a x. R a (N a x .0)) (λ a x. N a x .1) P (λ x m. L .later x t m) (L .alike) n o in C (b .key) (N (b .key) (b .rests) .0) (b .fits) (b .then′))
+      (f p)

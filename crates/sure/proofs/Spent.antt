@@ -2,48 +2,30 @@
 -- location, an issue with all but its processor's next, while there is room. Assumes nothing.
 use mathlib.Core.Path.{_≡_, refl, sym, _∙_, subst, ap}
 use mathlib.Core.Logic.{⊎-elim}
-use mathlib.Core.Bool.{Bool, true, false, cond, false≢true}
+use mathlib.Core.Bool.{true, false, false≢true}
 use mathlib.Core.Option.{none}
 use Prim.Native.Nat.{ℕ, zero, suc, _<_}
 use native.Mathlib.Omega.{arith}
-use lib.Dec.{eqb, leb}
-use borrow.Author.Tests.{eqb-true, eqb-false, eq-eqb}
+use lib.Dec.{eqb}
+use borrow.Author.Tests.{eqb-false, eq-eqb}
 use Rattle.words.proofs.Bools.{decide, or-none, and-make, put-other, or-cases}
 use Rattle.cases.specs.declared.Case.{Case}
 use Rattle.rules.specs.Kinds.{reading, branching, releasing, writing, acquiring}
 use Rattle.rules.specs.Commit.{committed}
 use Rattle.rules.specs.State.{kindOf, Action, State}
 use Rattle.rules.specs.Step.{issue, after, stepCode, commit, neither, Step}
-use Rattle.rules.specs.Issue.{issued}
-use Rattle.rules.proofs.Accepted.{can-commit, can-issue, CanIssue, after-issue, issue-ok, neither-no}
+use Rattle.rules.proofs.Accepted.{can-commit, after-issue, neither-no}
 use Rattle.sure.specs.Spent.{Spent, wakes, asleep, restable, rivals, taking, Key, issuing, stepBy, restful}
-use Rattle.sure.proofs.Kept.{waits-none, waits-proc}
+use Rattle.sure.proofs.Kept.{issued-old, committed-field, waits-none, waits-proc}
 use Rattle.sure.proofs.Good.{Good}
 use Rattle.sure.proofs.Commits.{Apart, turned, can-after, unread-after, commits-meet, acquires-meet}
-use Rattle.sure.proofs.Issues.{issue-after, commit-after, issue-meets}
 use Rattle.sure.proofs.Sure.{SureCommit}
-use Rattle.sure.proofs.Firm.{Firm, old, was-queued, past-acquire}
-use Rattle.sure.proofs.Whole.{Alike, count-two, count-after}
-use Rattle.sure.proofs.Renumber.{Pair}
-use Rattle.sure.proofs.Pairs.{issue-issue, at-first, at-second, issues-meet}
-use Rattle.sure.proofs.Commit.{after-take, CanTake, take-ok, can-take, asStep, committedBy, the, self, Commit, settledBy}
+use Rattle.sure.proofs.Firm.{Firm, was-queued, past-acquire}
+use Rattle.sure.proofs.Whole.{count-after}
+use Rattle.sure.proofs.Moves.{Alike, Moves, Passes, passes-of, other-way, commits-move, commit-moves, issues-pass}
+use Rattle.sure.proofs.Commit.{after-take, CanTake, can-take, asStep, committedBy, the, self, Commit, settledBy}
 use Rattle.sure.proofs.Held.{read-only, acquire-only}
 use Rattle.sure.proofs.Sure
-
--- t and u, both accepted at s, in either order
-pub record Moves (c : Case) (s : State) (t u : Step) : Type 0 where
-  pub still : stepCode c (after c s u) t ≡ 0
-  pub fits : stepCode c (after c s t) u ≡ 0
-  pub meets : after c (after c s u) t ≡ after c (after c s t) u
-
--- the same, up to the numbers of two new actions
-pub record Passes (c : Case) (s : State) (t u : Step) : Type 0 where
-  pub still : stepCode c (after c s u) t ≡ 0
-  pub fits : stepCode c (after c s t) u ≡ 0
-  pub meets : Alike (after c (after c s u) t) (after c (after c s t) u)
-
-passes-of : (c : Case) (s : State) (t u : Step) → Moves c s t u → Passes c s t u
-passes-of c s t u M = record { still = M .still; fits = M .fits; meets = Alike.same (M .meets) }
 
 -- the step does not commit action k
 abbrev pub Elsewhere : ℕ → Step → Type 0
@@ -51,33 +33,14 @@ Elsewhere k (issue p) = Unit {0}
 Elsewhere k (commit p j e) = k ≡ j → ⊥
 Elsewhere k neither = Unit {0}
 
-module _ (c : Case) (s : State) (G : Good s) where
-  -- a commit and an issue
-  past-issue : (t : Commit) → CanTake c s t → (q : ℕ) → stepCode c s (issue q) ≡ 0 → Moves c s (asStep t) (issue q)
-  past-issue t T q g =
-      let I = can-issue c s q g in
-      record {
-        still = rw (after-issue c s q) (take-ok c (issued c s q) t (commit-after c s q t G I T));
-        fits = rw (after-take c s t) (issue-ok c (committedBy c s t) q (issue-after c s q t G I T));
-        meets = rw (after-take c s t, after-issue c s q, after-issue c (committedBy c s t) q, after-take c (issued c s q) t) (issue-meets c s q t G I T);
-      }
-
-  -- two commits
-  past-commit : (t u : Commit) → CanTake c (committedBy c s u) t → CanTake c (committedBy c s t) u → committedBy c (committedBy c s u) t ≡ committedBy c (committedBy c s t) u → Moves c s (asStep t) (asStep u)
-  past-commit t u T U m =
-      record {
-        still = rw (after-take c s u) (take-ok c (committedBy c s u) t T);
-        fits = rw (after-take c s t) (take-ok c (committedBy c s t) u U);
-        meets = rw (after-take c s t, after-take c s u, after-take c (committedBy c s t) u, after-take c (committedBy c s u) t) m;
-      }
-
 -- THE DIAMOND of reads: the accepted commit of a read, and any other accepted step that does not commit the same action
 module _ (c : Case) (s : State) (G : Good s) (F : Firm s) (t : Commit) (h : stepCode c s (asStep t) ≡ 0) (r : reading (kindOf (self s t)) ≡ true) where
   T : CanTake c s t
   T = can-take c s t h
 
   read-commit : (u : Commit) → stepCode c s (asStep u) ≡ 0 → (t .action ≡ u .action → ⊥) → Moves c s (asStep t) (asStep u)
-  read-commit u g d = past-commit c s G t u still (can-after c s u t U T (turned c s t u A) (k .1)) (sym (commits-meet c s u t U T (turned c s t u A) (k .1)))
+  read-commit u g d =
+      commits-move c s t u still (can-after c s u t U T (turned c s t u A) (k .1)) (sym (commits-meet c s u t U T (turned c s t u A) (k .1)))
     where
       U : CanTake c s u
       U = can-take c s u g
@@ -92,7 +55,7 @@ module _ (c : Case) (s : State) (G : Good s) (F : Firm s) (t : Commit) (h : step
       still = ⊎-elim (λ a. past-acquire c s G F t u T U d r a) (λ a. can-after c s t u T U A a) (decide (acquiring (kindOf (self s u))))
 
   pub read-moves : (u : Step) → stepCode c s u ≡ 0 → Elsewhere (t .action) u → Moves c s (asStep t) u
-  read-moves (issue q) g d = past-issue c s G t T q g
+  read-moves (issue q) g d = commit-moves c s G t h q g
   read-moves (commit q j e) g d = read-commit (the q j e) g d
   read-moves neither g d = absurd (neither-no c s g)
 
@@ -109,11 +72,12 @@ module _ (c : Case) (s : State) (G : Good s) (F : Firm s) (t : Commit) (h : step
     O = can-take c s u g
 
     -- neither is a read
-    unread : Apart c s t u → reading (kindOf (self s u)) ≡ false → committedBy c (committedBy c s u) t ≡ committedBy c (committedBy c s t) u → Moves c s (asStep t) (asStep u)
-    unread A r m = past-commit c s G t u (unread-after c s t u W O A (k .1)) (unread-after c s u t O W (turned c s t u A) r) m
+    unread : Apart c s t u → reading (kindOf (self s u)) ≡ false → committedBy c (committedBy c s u) t ≡ committedBy c (committedBy c s t) u
+        → Moves c s (asStep t) (asStep u)
+    unread A r m = commits-move c s t u (unread-after c s t u W O A (k .1)) (unread-after c s u t O W (turned c s t u A) r) m
 
     past-read : reading (kindOf (self s u)) ≡ true → Moves c s (asStep t) (asStep u)
-    past-read r = let M = read-moves c s G F u g r (asStep t) h (λ e. d (sym e)) in record { still = M .fits; fits = M .still; meets = sym (M .meets) }
+    past-read r = other-way (read-moves c s G F u g r (asStep t) h (λ e. d (sym e)))
 
     past-other : rivals s (self s u) (self s t) ≡ false → acquiring (kindOf (self s u)) ≡ true → Moves c s (asStep t) (asStep u)
     past-other x b =
@@ -128,41 +92,20 @@ module _ (c : Case) (s : State) (G : Good s) (F : Firm s) (t : Commit) (h : step
         unread A r (commits-meet c s t u W O A b)
 
     acquire-commit : rivals s (self s u) (self s t) ≡ false → Moves c s (asStep t) (asStep u)
-    acquire-commit x = ⊎-elim past-read (λ r. ⊎-elim (past-other x) (past-sure r) (decide (acquiring (kindOf (self s u))))) (decide (reading (kindOf (self s u))))
+    acquire-commit x =
+        ⊎-elim past-read (λ r. ⊎-elim (past-other x) (past-sure r) (decide (acquiring (kindOf (self s u))))) (decide (reading (kindOf (self s u))))
 
-  pub acquire-moves : (u : Step) → stepCode c s u ≡ 0 → Elsewhere (t .action) u → wakes s u (taking (t .action) (t .source)) ≡ false → Moves c s (asStep t) u
-  acquire-moves (issue q) g d x = past-issue c s G t W q g
+  pub acquire-moves : (u : Step) → stepCode c s u ≡ 0 → Elsewhere (t .action) u → wakes s u (taking (t .action) (t .source)) ≡ false
+      → Moves c s (asStep t) u
+  acquire-moves (issue q) g d x = commit-moves c s G t h q g
   acquire-moves (commit q j e) g d x = acquire-commit (the q j e) g d x
   acquire-moves neither g d x = absurd (neither-no c s g)
 
 -- THE DIAMOND of issues: an accepted issue, and any other accepted step but an issue of its processor or of the last action that there is room for
 module _ (c : Case) (s : State) (G : Good s) (p : ℕ) (h : stepCode c s (issue p) ≡ 0) where
-  I : CanIssue c s p
-  I = can-issue c s p h
-
-  issue-commit : (u : Commit) → stepCode c s (asStep u) ≡ 0 → Moves c s (issue p) (asStep u)
-  issue-commit u g = let M = past-issue c s G u (can-take c s u g) p h in record { still = M .fits; fits = M .still; meets = sym (M .meets) }
-
-  issue-issued : (q : ℕ) → stepCode c s (issue q) ≡ 0 → (p ≡ q → ⊥) → leb 48 (suc (s .count)) ≡ false → Passes c s (issue p) (issue q)
-  issue-issued q g d space =
-      record {
-        still = rw (after-issue c s q) (issue-ok c (issued c s q) p (issue-issue c s q p G J I d′ space));
-        fits = rw (after-issue c s p) (issue-ok c (issued c s p) q (issue-issue c s p q G I J d space));
-        meets = rw (after-issue c s p, after-issue c s q, after-issue c (issued c s q) p, after-issue c (issued c s p) q) (Alike.turned (s .count) pair (sym (issues-meet c s p q G I J d)));
-      }
-    where
-      J : CanIssue c s q
-      J = can-issue c s q g
-
-      d′ : q ≡ p → ⊥
-      d′ e = d (sym e)
-
-      pair : Pair (s .count) (issued c (issued c s q) p)
-      pair = record { there = count-two c s q p; differ = λ e. d′ (ap (λ (a : Action). a .proc) (sym (at-first c s q p G J I d′)) ∙ e ∙ ap (λ (a : Action). a .proc) (at-second c s q p G J I d′)) }
-
   pub issue-passes : (u : Step) → stepCode c s u ≡ 0 → wakes s u (issuing p) ≡ false → Passes c s (issue p) u
-  issue-passes (issue q) g x = let w = or-none (eqb p q) (leb 48 (suc (s .count))) x in issue-issued q g (eqb-false p q (w .0)) (w .1)
-  issue-passes (commit q j e) g x = passes-of c s (issue p) (commit q j e) (issue-commit (the q j e) g)
+  issue-passes (issue q) g x = let w = or-none (eqb p q) _ x in issues-pass c s G p q h g (eqb-false p q (w .0)) (w .1)
+  issue-passes (commit q j e) g x = passes-of (other-way (commit-moves c s G (the q j e) g p h))
   issue-passes neither g x = absurd (neither-no c s g)
 
 -- an accepted step is known by its key
@@ -173,7 +116,12 @@ pub record Keyed (s : State) (t : Step) : Type 0 where
 
 pub keyed : (c : Case) (s : State) (t : Step) → stepCode c s t ≡ 0 → Keyed s t
 keyed c s (issue p) h = record { key = issuing p; names = refl; sleeps = λ sp. refl }
-keyed c s (commit p k e) h = record { key = taking k e; names = ap (λ (q : ℕ). commit q k e) (sym (waits-proc p (s .actions k) (can-commit c s p k e h .waits))); sleeps = λ sp. refl }
+keyed c s (commit p k e) h =
+    record {
+      key = taking k e;
+      names = ap (λ (q : ℕ). commit q k e) (sym (waits-proc p (s .actions k) (can-commit c s p k e h .waits)));
+      sleeps = λ sp. refl;
+    }
 keyed c s neither h = absurd (neither-no c s h)
 
 -- action k is a read or an acquire, and while it is in the queue its commit from e is accepted
@@ -213,7 +161,7 @@ module _ (c : Case) (s : State) (G : Good s) (F : Firm s) where
   before : (u : Step) → stepCode c s u ≡ 0 → (k : ℕ) → k < s .count → after c s u .actions k .result ≡ none → Before c s u k
   unfolding committed
   before (issue q) g k l w =
-      let e = ap (λ (x : State). x .actions k) (after-issue c s q) ∙ old c s G F q k l in
+      let e = ap (λ (x : State). x .actions k) (after-issue c s q) ∙ issued-old c s q k l in
       record { idle = ap (λ (a : Action). a .result) (sym e) ∙ w; other = tt; same = e }
   before (commit q j f) g k l w =
       let u = the q j f in
@@ -223,12 +171,8 @@ module _ (c : Case) (s : State) (G : Good s) (F : Firm s) where
 
   kind-same : (u : Step) → (k : ℕ) → k < s .count → restable (kindOf (after c s u .actions k)) ≡ restable (kindOf (s .actions k))
   unfolding committed after
-  kind-same (issue q) k l = ap (λ (a : Action). restable (kindOf a)) (old c s G F q k l)
-  kind-same (commit q j f) k l = step (eqb k j) refl
-    where
-      step : (b : Bool) → eqb k j ≡ b → restable (kindOf (cond b (settledBy c s (the q j f)) (s .actions k))) ≡ restable (kindOf (s .actions k))
-      step true e = ap (λ (i : ℕ). restable (kindOf (s .actions i))) (sym (eqb-true _ _ e))
-      step false e = refl
+  kind-same (issue q) k l = ap (λ (a : Action). restable (kindOf a)) (issued-old c s q k l)
+  kind-same (commit q j f) k l = committed-field c s (the q j f) (λ a. restable (kindOf a)) refl k
   kind-same neither k l = refl
 
   module _ (u : Step) (g : stepCode c s u ≡ 0) where
@@ -245,7 +189,9 @@ module _ (c : Case) (s : State) (G : Good s) (F : Firm s) where
         let t = the (s .actions k .proc) k e in
         record {
           fits = h;
-          passes = passes-of c s (asStep t) u (⊎-elim (λ r. read-moves c s G F t h r u g (B .other)) (λ a. acquire-moves c s G F t h a u g (B .other) N) (or-cases (reading (kindOf (s .actions k))) (acquiring (kindOf (s .actions k))) (R .kinds)));
+          passes =
+              passes-of
+              (⊎-elim (λ r. read-moves c s G F t h r u g (B .other)) (λ a. acquire-moves c s G F t h a u g (B .other) N) (or-cases (reading (kindOf (s .actions k))) (acquiring (kindOf (s .actions k))) (R .kinds)));
           named = ap (λ (a : Action). commit (a .proc) k e) (sym (B .same));
         }
 
@@ -265,11 +211,14 @@ module _ (c : Case) (s : State) (G : Good s) (F : Firm s) where
       rested-step (issuing p) x = left-issue p (R (issuing p) x) (N (issuing p) x) .passes .still
 
       left : (a : Key) → sp a ≡ true → stepCode c (after c s u) (stepBy (after c s u) a) ≡ 0 → Left a
-      left (taking k e) x h = left-commit k e (R (taking k e) x) (N (taking k e) x) (waits-none (after c s u .actions k .proc) (after c s u .actions k) (can-commit c (after c s u) (after c s u .actions k .proc) k e h .waits))
+      left (taking k e) x h =
+          left-commit k e (R (taking k e) x) (N (taking k e) x)
+          (waits-none (after c s u .actions k .proc) (after c s u .actions k) (can-commit c (after c s u) (after c s u .actions k .proc) k e h .waits))
       left (issuing p) x h = left-issue p (R (issuing p) x) (N (issuing p) x)
 
       -- a spent step after u moves to the front
-      pub to-front : (P : State → ℕ → Type 0) → ((x : State) (n : ℕ) → stepCode c x u ≡ 0 → P (after c x u) n → P x (suc n)) → ((a b : State) (n : ℕ) → Alike a b → P a n → P b n) → (n : ℕ) → Else c sp P (after c s u) n → Through c sp (λ x. P x n) s
+      pub to-front : (P : State → ℕ → Type 0) → ((x : State) (n : ℕ) → stepCode c x u ≡ 0 → P (after c x u) n → P x (suc n))
+          → ((a b : State) (n : ℕ) → Alike a b → P a n → P b n) → (n : ℕ) → Else c sp P (after c s u) n → Through c sp (λ x. P x n) s
       to-front P later alike zero o = absurd o
       to-front P later alike (suc n) o =
           let L = left (o .key) (o .rests) (o .fits) in
@@ -278,7 +227,9 @@ module _ (c : Case) (s : State) (G : Good s) (F : Firm s) where
             key = o .key;
             rests = o .rests;
             fits = L .fits;
-            then′ = later (after c s t) n (L .passes .fits) (alike (after c (after c s u) t) (after c (after c s t) u) n (L .passes .meets) (subst (λ (t : Step). P (after c (after c s u) t) n) (sym (L .named)) (o .then′)));
+            then′ =
+                later (after c s t) n (L .passes .fits)
+                (alike (after c (after c s u) t) (after c (after c s t) u) n (L .passes .meets) (subst (λ (t : Step). P (after c (after c s u) t) n) (sym (L .named)) (o .then′)));
           }
 
 -- an accepted step that may be spent

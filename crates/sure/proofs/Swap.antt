@@ -1,4 +1,4 @@
--- Two adjacent numbers changed about. Assumes nothing.
+-- Two adjacent numbers changed about, and an order with its items changed about. Assumes nothing.
 use mathlib.Core.Path.{_≡_, refl, sym, _∙_, ap, ap₂, fun-ext}
 use mathlib.Core.Logic.{_⊎_, inl, inr}
 use mathlib.Core.Bool.{Bool, true, false, cond, _&&_, _||_}
@@ -84,7 +84,10 @@ swap-next n k h = step (view n k)
     step (stay a e b) = absurd (e h)
 
 pub swap-eqb : (n a b : ℕ) → eqb (swap n a) b ≡ eqb a (swap n b)
-swap-eqb n a b = bool-eq _ _ (λ h. eq-eqb _ _ (sym (swap-twice n a) ∙ ap (swap n) (eqb-true _ _ h))) (λ h. eq-eqb _ _ (ap (swap n) (eqb-true _ _ h) ∙ swap-twice n b))
+swap-eqb n a b =
+    bool-eq _ _
+    (λ h. eq-eqb _ _ (sym (swap-twice n a) ∙ ap (swap n) (eqb-true _ _ h)))
+    (λ h. eq-eqb _ _ (ap (swap n) (eqb-true _ _ h) ∙ swap-twice n b))
 
 pub swap-item : (n k : ℕ) → swap (8 + n) (8 + k) ≡ 8 + swap n k
 swap-item n k = step (view n k) (view (8 + n) (8 + k))
@@ -116,12 +119,14 @@ swap-before n j k h = step (view n k) (view n j)
     step (stay a g b) (stay d f e) = inl (omega arith)
 
 -- f is g with the numbers changed about
-pub below-swap : (n m : ℕ) (f g : ℕ → Bool) → ((k : ℕ) → k < m → swap n k < m) → ((k : ℕ) → k < m → f k ≡ g (swap n k)) → someBelow m f ≡ someBelow m g
+pub below-swap : (n m : ℕ) (f g : ℕ → Bool) → ((k : ℕ) → k < m → swap n k < m) → ((k : ℕ) → k < m → f k ≡ g (swap n k))
+    → someBelow m f ≡ someBelow m g
 below-swap n m f g l e = bool-eq _ _
     (λ h. let r = below-cases m f h in below-make m g (swap n (r .0)) (l (r .0) (r .1)) (sym (e (r .0) (r .1)) ∙ r .2))
     (λ h. let r = below-cases m g h in below-make m f (swap n (r .0)) (l (r .0) (r .1)) (e (swap n (r .0)) (l (r .0) (r .1)) ∙ ap g (swap-twice n (r .0)) ∙ r .2))
 
-pub put-swapped : {A B : Type 0} (n : ℕ) (f : ℕ → A) (g : A → B) (i : ℕ) (v : A) (k : ℕ) → put (λ j. g (f (swap n j))) (swap n i) (g v) k ≡ g (put f i v (swap n k))
+pub put-swapped : {A B : Type 0} (n : ℕ) (f : ℕ → A) (g : A → B) (i : ℕ) (v : A) (k : ℕ)
+    → put (λ j. g (f (swap n j))) (swap n i) (g v) k ≡ g (put f i v (swap n k))
 put-swapped n f g i v k = ap (λ (b : Bool). cond b (g v) (g (f (swap n k)))) (sym (swap-eqb n k i)) ∙ step (eqb (swap n k) i)
   where
     step : (b : Bool) → cond b (g v) (g (f (swap n k))) ≡ g (cond b v (f (swap n k)))
@@ -131,14 +136,16 @@ put-swapped n f g i v k = ap (λ (b : Bool). cond b (g v) (g (f (swap n k)))) (s
 abbrev pub swapOrder : ℕ → Order → Order
 swapOrder n R a b = R (swap n a) (swap n b)
 
-pub joined-swapped : (n : ℕ) (R : Order) (i m : ℕ) (P Q : ℕ → Bool) → ((k : ℕ) → k < m → swap n k < m) → ((e : ℕ) → e < m → Q e ≡ P (swap n e)) → joined (swapOrder n R) (swap n i) m Q ≡ swapOrder n (joined R i m P)
+pub joined-swapped : (n : ℕ) (R : Order) (i m : ℕ) (P Q : ℕ → Bool) → ((k : ℕ) → k < m → swap n k < m) → ((e : ℕ) → e < m → Q e ≡ P (swap n e))
+    → joined (swapOrder n R) (swap n i) m Q ≡ swapOrder n (joined R i m P)
 unfolding joined
 joined-swapped n R i m P Q l e = fun-ext λ a. fun-ext λ b.
     ap₂ (λ (x y : Bool). R (swap n a) (swap n b) || (x && y))
     (ap₂ (λ (x : Bool) (j : ℕ). x || R j (swap n b)) (sym (swap-eqb n b i)) (swap-twice n i))
     (below-swap n m (λ p. Q p && upTo (swapOrder n R) a p) (λ p. P p && upTo R (swap n a) p) l (λ p z. ap₂ (λ (x y : Bool). x && (y || R (swap n a) (swap n p))) (e p z) (ap (λ (z : ℕ). eqb z p) (sym (swap-twice n a)) ∙ swap-eqb n (swap n a) p)))
 
-pub joinedIf-swapped : (x : Bool) (n : ℕ) (R : Order) (i m : ℕ) (P Q : ℕ → Bool) → ((k : ℕ) → k < m → swap n k < m) → ((e : ℕ) → e < m → Q e ≡ P (swap n e)) → joinedIf x (swapOrder n R) (swap n i) m Q ≡ swapOrder n (joinedIf x R i m P)
+pub joinedIf-swapped : (x : Bool) (n : ℕ) (R : Order) (i m : ℕ) (P Q : ℕ → Bool) → ((k : ℕ) → k < m → swap n k < m)
+    → ((e : ℕ) → e < m → Q e ≡ P (swap n e)) → joinedIf x (swapOrder n R) (swap n i) m Q ≡ swapOrder n (joinedIf x R i m P)
 unfolding joinedIf
 joinedIf-swapped true n R i m P Q l e = joined-swapped n R i m P Q l e
 joinedIf-swapped false n R i m P Q l e = refl

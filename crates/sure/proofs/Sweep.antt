@@ -12,7 +12,7 @@ use Rattle.words.specs.Small.{isNone}
 use Rattle.cases.specs.declared.Case.{Case}
 use Rattle.runs.specs.Outcome.{Outcome, Cut}
 use Rattle.rules.specs.Result.{finished, registers}
-use Rattle.rules.specs.State.{kindOf, initial, State}
+use Rattle.rules.specs.State.{kindOf, initial, State, itemValue}
 use Rattle.rules.specs.Step.{issue, Step, after, stepCode}
 use Rattle.rules.specs.Womm.{womm}
 use Rattle.rules.specs.Kinds.{reading, acquiring}
@@ -22,13 +22,23 @@ use Rattle.sure.specs.Sure.{Sized, sure, sureKind}
 use Rattle.sure.specs.Spent.{stepBy, taking, Spent, asleep, issuing, Key, restable, fresh, restful}
 use Rattle.sure.proofs.Good.{Good}
 use Rattle.sure.proofs.Reduce.{Done, Open, done-from, done-to, open-from, open-to}
-use Rattle.sure.proofs.Spent.{Rests, keyed, Resting, resting, Rested, rested-step, Through, Else, to-front}
+use Rattle.sure.proofs.Spent.{Rests, Keyed, keyed, Resting, resting, Rested, rested-step, Through, Else, to-front}
 use Rattle.sure.proofs.Search.{Known, Calm, Runs, Tried, done-runs, open-runs, tried-branch, covers-start, at-end, no-more, unspent}
 use Rattle.sure.proofs.Commit.{CanTake, Commit, source-zero, sees-take, self, the, can-take}
 
 -- the source of an accepted read is an item
 pub source-there : (c : Case) (s : State) → Good s → (t : Commit) → CanTake c s t → reading (kindOf (self s t)) ≡ true → t .source < 8 + s .count
-source-there c s G t T r = ⊎-elim (λ q. omega (arith, ltb-true (t .source) 8 q)) (λ q. ⊎-elim (λ l. omega (arith, ltb-true (t .source - 8) (s .count) l)) (λ l. absurd (false≢true (sym (sees-take c s t T r .known) ∙ ap isNone (cond-false (ltb (t .source) 8) _ _ q ∙ G .fresh (t .source - 8) (ltb-false _ _ l))))) (decide (ltb (t .source - 8) (s .count)))) (decide (ltb (t .source) 8))
+source-there c s G t T r = ⊎-elim (λ q. omega (arith, ltb-true (t .source) 8 q)) above (decide (ltb (t .source) 8))
+  where
+    -- no action past the count has a value
+    gone : ltb (t .source) 8 ≡ false → ltb (t .source - 8) (s .count) ≡ false → isNone (itemValue c s (t .source)) ≡ true
+    gone q l = ap isNone (cond-false (ltb (t .source) 8) _ _ q ∙ G .fresh (t .source - 8) (ltb-false _ _ l))
+
+    above : ltb (t .source) 8 ≡ false → t .source < 8 + s .count
+    above q =
+        ⊎-elim (λ l. omega (arith, ltb-true (t .source - 8) (s .count) l))
+        (λ l. absurd (false≢true (sym (sees-take c s t T r .known) ∙ gone q l)))
+        (decide (ltb (t .source - 8) (s .count)))
 
 -- What is asked of a search: is r an outcome? is a run cut?
 pub data Question : Type 0 where
@@ -63,11 +73,15 @@ pub record Sweep (c : Case) (sp : Spent) (s : State) (n : ℕ) (now : Spent) (B 
   pub covered : (a : Key) → now a ≡ true → stepCode c s (stepBy s a) ≡ 0 → Tested c sp s n X (stepBy s a)
 
 module _ (c : Case) (s : State) (sp : Spent) (B X : Question → Type 0) (keeps : (q : Question) → B q → X q) where
-  -- the ends
-
   -- a finished state: its registers are told
-  pub told-end : (n : ℕ) → finished c s ≡ true → ((q : Question) → X q → B q ⊎ (q ≡ outcome (registers c s))) → X (outcome (registers c s)) → Told c sp s n B X
-  told-end n f new x = record { kept = keeps; sound = λ q y. ⊎-elim (λ b. inl b) (λ e. inr (subst (λ (q : Question). Run c q s n) (sym e) (Done.now f refl))) (new q y); full = full n }
+  pub told-end : (n : ℕ) → finished c s ≡ true → ((q : Question) → X q → B q ⊎ (q ≡ outcome (registers c s))) → X (outcome (registers c s))
+      → Told c sp s n B X
+  told-end n f new x =
+      record {
+        kept = keeps;
+        sound = λ q y. ⊎-elim (λ b. inl b) (λ e. inr (subst (λ (q : Question). Run c q s n) (sym e) (Done.now f refl))) (new q y);
+        full = full n;
+      }
     where
       full : (n : ℕ) (q : Question) → Run c q s n → X q ⊎ Else c sp (Run c q) s n
       full n (outcome r) d = inl (subst (λ (r : List ℕ). X (outcome r)) (at-end c f d) x)
@@ -76,7 +90,12 @@ module _ (c : Case) (s : State) (sp : Spent) (B X : Question → Type 0) (keeps 
 
   -- no step to go at an unfinished state: the cut is told
   pub told-bound : finished c s ≡ false → ((q : Question) → X q → B q ⊎ (q ≡ cut)) → X cut → Told c sp s 0 B X
-  told-bound f new x = record { kept = keeps; sound = λ q y. ⊎-elim (λ b. inl b) (λ e. inr (subst (λ (q : Question). Run c q s 0) (sym e) (Open.now f))) (new q y); full = full }
+  told-bound f new x =
+      record {
+        kept = keeps;
+        sound = λ q y. ⊎-elim (λ b. inl b) (λ e. inr (subst (λ (q : Question). Run c q s 0) (sym e) (Open.now f))) (new q y);
+        full = full;
+      }
     where
       full : (q : Question) → Run c q s 0 → X q ⊎ Else c sp (Run c q) s 0
       full (outcome r) (Done.now g e) = absurd (false≢true (sym f ∙ g))
@@ -88,31 +107,44 @@ module _ (c : Case) (Z : Sized c) (s : State) (sp : Spent) (K : Known c s) (n : 
   rested-after R t h z N = rested-step c s (K .reached .good) (K .firm) t h z (λ a x. R a (N a x .0)) (λ a x. N a x .1)
 
   -- a sure step alone
-  pub told-alone : {B X : Question → Type 0} (t : Step) → stepCode c s t ≡ 0 → sure c (suc n) s t ≡ true → Rested c s sp → (z : Spent) → Calm s t sp z → Told c z (after c s t) n B X → Told c sp s (suc n) B X
+  pub told-alone : {B X : Question → Type 0} (t : Step) → stepCode c s t ≡ 0 → sure c (suc n) s t ≡ true → Rested c s sp → (z : Spent) → Calm s t sp z
+      → Told c z (after c s t) n B X → Told c sp s (suc n) B X
   told-alone t h p R z N W =
       record {
         kept = W .kept;
         sound = λ q x. ⊎-elim (λ b. inl b) (λ d. inr (runs c Z q .later s t n h d)) (W .sound q x);
-        full = λ q d. ⊎-elim (λ x. inl x) (λ o. inr (more q (to-front c s (K .reached .good) (K .firm) t h z (λ a x. R a (N a x .0)) (λ a x. N a x .1) (Run c q) (λ y m. runs c Z q .later y t m) (runs c Z q .alike) n o))) (W .full q (runs c Z q .alone s t n (K .reached) h p d));
+        full = λ q d. ⊎-elim (λ x. inl x) (λ o. inr (more q (front q o))) (W .full q (runs c Z q .alone s t n (K .reached) h p d));
       }
     where
+      -- a spent step of the branch moves before t
+      front : (q : Question) → Else c z (Run c q) (after c s t) n → Through c z (λ x. Run c q x n) s
+      front q =
+          to-front c s (K .reached .good) (K .firm) t h z (λ a x. R a (N a x .0)) (λ a x. N a x .1)
+          (Run c q) (λ y m. runs c Z q .later y t m) (runs c Z q .alike) n
+
       more : (q : Question) → Through c z (λ x. Run c q x n) s → Through c sp (λ x. Run c q x n) s
       more q o = record { key = o .key; rests = N (o .key) (o .rests) .0; fits = o .fits; then′ = o .then′ }
 
   -- a sure step that is spent: nothing is left to find
   pub told-dead : {B : Question → Type 0} (t : Step) → stepCode c s t ≡ 0 → sure c (suc n) s t ≡ true → asleep sp t ≡ true → Told c sp s (suc n) B B
-  told-dead t h p e =
-      let k = keyed c s t h in
-      record {
-        kept = λ q b. b;
-        sound = λ q b. inl b;
-        full = λ q d. inr (record { key = k .key; rests = sym (k .sleeps sp) ∙ e; fits = subst (λ (u : Step). stepCode c s u ≡ 0) (k .names) h; then′ = subst (λ (u : Step). Run c q (after c s u) n) (k .names) (runs c Z q .alone s t n (K .reached) h p d) });
-      }
+  told-dead t h p e = record { kept = λ q b. b; sound = λ q b. inl b; full = λ q d. inr (itself q (runs c Z q .alone s t n (K .reached) h p d)) }
+    where
+      k : Keyed s t
+      k = keyed c s t h
 
-  -- the loop
+      itself : (q : Question) → Run c q (after c s t) n → Through c sp (λ x. Run c q x n) s
+      itself q d =
+          record {
+            key = k .key;
+            rests = sym (k .sleeps sp) ∙ e;
+            fits = subst (λ (u : Step). stepCode c s u ≡ 0) (k .names) h;
+            then′ = subst (λ (u : Step). Run c q (after c s u) n) (k .names) d;
+          }
 
+  -- the loop starts
   pub sweep-start : {B : Question → Type 0} → Rested c s sp → Sweep c sp s n sp B B
-  sweep-start {B} R = record { rested = R; kept = λ q b. b; sound = λ q b. inl b; covered = λ a h f q. covers-start c (Run c q) (runs c Z q) s n sp (B q) a h f }
+  sweep-start {B} R =
+      record { rested = R; kept = λ q b. b; sound = λ q b. inl b; covered = λ a h f q. covers-start c (Run c q) (runs c Z q) s n sp (B q) a h f }
 
   pub tested-more : {X Y : Question → Type 0} (t : Step) → ((q : Question) → X q → Y q) → Tested c sp s n X t → Tested c sp s n Y t
   tested-more t f T q d = ⊎-elim (λ x. inl (f q x)) (λ o. inr o) (T q d)
@@ -122,7 +154,10 @@ module _ (c : Case) (Z : Sized c) (s : State) (sp : Spent) (K : Known c s) (n : 
     module _ (t : Step) (h : stepCode c s t ≡ 0) where
       module _ (z : Spent) (N : Calm s t now z) {Y : Question → Type 0} (W : Told c z (after c s t) n X Y) where
         pub tested-branch : Tested c sp s n Y t
-        tested-branch q = tried-branch c (Run c q) (runs c Z q) s n sp (Y q) K now (S .rested) (λ a x y. tested-more (stepBy s a) (W .kept) (S .covered a x y) q) t h z N (W .full q)
+        tested-branch q =
+            tried-branch c (Run c q) (runs c Z q) s n sp (Y q) K now (S .rested)
+            (λ a x y. tested-more (stepBy s a) (W .kept) (S .covered a x y) q)
+            t h z N (W .full q)
 
         pub sweep-branch : Sweep c sp s n now B Y
         sweep-branch =
@@ -138,7 +173,8 @@ module _ (c : Case) (Z : Sized c) (s : State) (sp : Spent) (K : Known c s) (n : 
       sweep-lacks q w = ⊎-elim (S .sound q) (λ d. inr (runs c Z q .later s t n h d)) w
 
     -- `more` are spent from now on: accepted commits of reads and acquires, and issues, that are done with
-    pub sweep-note : (more : Spent) → ((a : Key) → more a ≡ true → (now a ≡ true) ⊎ (Resting c s a × Tested c sp s n X (stepBy s a))) → Sweep c sp s n more B X
+    pub sweep-note : (more : Spent) → ((a : Key) → more a ≡ true → (now a ≡ true) ⊎ (Resting c s a × Tested c sp s n X (stepBy s a)))
+        → Sweep c sp s n more B X
     sweep-note more N =
         record {
           rested = λ a h. ⊎-elim (S .rested a) (λ w. w .0) (N a h);
@@ -148,7 +184,8 @@ module _ (c : Case) (Z : Sized c) (s : State) (sp : Spent) (K : Known c s) (n : 
         }
 
     -- one turn of the loop: the branch of the key a, which is spent from then on
-    pub sweep-turn : (a : Key) → stepCode c s (stepBy s a) ≡ 0 → restful s a ≡ true → (z : Spent) → Calm s (stepBy s a) now z → {Y : Question → Type 0} → Told c z (after c s (stepBy s a)) n X Y
+    pub sweep-turn : (a : Key) → stepCode c s (stepBy s a) ≡ 0 → restful s a ≡ true → (z : Spent) → Calm s (stepBy s a) now z
+        → {Y : Question → Type 0} → Told c z (after c s (stepBy s a)) n X Y
         → (more : Spent) → ((b : Key) → more b ≡ true → (now b ≡ true) ⊎ (b ≡ a)) → Sweep c sp s n more B Y
     sweep-turn a h r z N {Y} W more M =
         let S′ = sweep-branch (stepBy s a) h z N W in
@@ -161,7 +198,8 @@ module _ (c : Case) (Z : Sized c) (s : State) (sp : Spent) (K : Known c s) (n : 
         }
 
     -- the same for a row: the sources v of action k
-    pub sweep-row : (k : ℕ) (v : ℕ → Bool) (more : Spent) → restable (kindOf (s .actions k)) ≡ true → ((j e : ℕ) → more (taking j e) ≡ (now (taking j e) || (eqb j k && v e))) → ((p : ℕ) → more (issuing p) ≡ now (issuing p))
+    pub sweep-row : (k : ℕ) (v : ℕ → Bool) (more : Spent) → restable (kindOf (s .actions k)) ≡ true
+        → ((j e : ℕ) → more (taking j e) ≡ (now (taking j e) || (eqb j k && v e))) → ((p : ℕ) → more (issuing p) ≡ now (issuing p))
         → ((e : ℕ) → v e ≡ true → (stepCode c s (stepBy s (taking k e)) ≡ 0) × Tested c sp s n X (stepBy s (taking k e))) → Sweep c sp s n more B X
     sweep-row k v more r E I T = sweep-note more old
       where
@@ -180,7 +218,8 @@ module _ (c : Case) (Z : Sized c) (s : State) (sp : Spent) (K : Known c s) (n : 
     settle a h w = ⊎-elim (λ e. S .covered a e h) (λ T. T) w
 
     -- every accepted step is spent by now or done with
-    pub told-all : finished c s ≡ false → ((a : Key) → stepCode c s (stepBy s a) ≡ 0 → (now a ≡ true) ⊎ Tested c sp s n X (stepBy s a)) → Told c sp s (suc n) B X
+    pub told-all : finished c s ≡ false → ((a : Key) → stepCode c s (stepBy s a) ≡ 0 → (now a ≡ true) ⊎ Tested c sp s n X (stepBy s a))
+        → Told c sp s (suc n) B X
     told-all f T =
         record {
           kept = S .kept;
@@ -209,22 +248,31 @@ module _ (c : Case) (Z : Sized c) (s : State) (sp : Spent) (K : Known c s) (n : 
             let z : e ≡ 0 = source-zero c s (the (s .actions k .proc) k e) (at k e h) r in
             let h₀ = subst (λ (i : ℕ). stepCode c s (stepBy s (taking k i)) ≡ 0) z h in
             subst (λ (i : ℕ). now (taking k i) ≡ true) (sym z)
-            (⊎-elim (λ a. acquire-noted k (at k e h .there) a h₀) (λ a. absurd (no-sure k (at k e h .there) (ap₂ (λ (x y : Bool). not (x || y)) r a) h₀)) (decide (acquiring (kindOf (s .actions k)))))
+            (⊎-elim (λ a. acquire-noted k (at k e h .there) a h₀)
+            (λ a. absurd (no-sure k (at k e h .there) (ap₂ (λ (x y : Bool). not (x || y)) r a) h₀))
+            (decide (acquiring (kindOf (s .actions k)))))
 
         each : (a : Key) → stepCode c s (stepBy s a) ≡ 0 → (now a ≡ true) ⊎ Tested c sp s n X (stepBy s a)
-        each (taking k e) h = inl (⊎-elim (λ r. read-noted k e (at k e h .there) (source-there c s (K .reached .good) (the (s .actions k .proc) k e) (at k e h) r) r h) (plain k e h) (decide (reading (kindOf (s .actions k)))))
+        each (taking k e) h =
+            let there : reading (kindOf (s .actions k)) ≡ true → e < 8 + s .count = λ r. source-there c s (K .reached .good) (the (s .actions k .proc) k e) (at k e h) r in
+            inl (⊎-elim (λ r. read-noted k e (at k e h .there) (there r) r h) (plain k e h) (decide (reading (kindOf (s .actions k)))))
         each (issuing p) h = inl (issue-noted p (can-issue c s p h .proc) h)
 
     -- the same of the sources of a quiet read, and it is enough
-    pub told-quiet : (k e : ℕ) → stepCode c s (stepBy s (taking k e)) ≡ 0 → quiet c s k ≡ true → ((e : ℕ) → stepCode c s (stepBy s (taking k e)) ≡ 0 → (now (taking k e) ≡ true) ⊎ Tested c sp s n X (stepBy s (taking k e))) → Told c sp s (suc n) B X
+    pub told-quiet : (k e : ℕ) → stepCode c s (stepBy s (taking k e)) ≡ 0 → quiet c s k ≡ true
+        → ((e : ℕ) → stepCode c s (stepBy s (taking k e)) ≡ 0 → (now (taking k e) ≡ true) ⊎ Tested c sp s n X (stepBy s (taking k e)))
+        → Told c sp s (suc n) B X
     told-quiet k e h p T =
         record {
           kept = S .kept;
           sound = S .sound;
-          full = λ q d. let x = runs c Z q .reads s (s .actions k .proc) k e n (K .reached .good) h p d in settle (taking k (x .source)) (x .fits) (T (x .source) (x .fits)) q (x .then′);
+          full = λ q d.
+              let x = runs c Z q .reads s (s .actions k .proc) k e n (K .reached .good) h p d in
+              settle (taking k (x .source)) (x .fits) (T (x .source) (x .fits)) q (x .then′);
         }
 
--- THE THEOREM for code: a search from the start with nothing spent and nothing told before tells the outcomes and nothing besides, and the cut.
+-- THE THEOREM for code: a search from the start with nothing spent and nothing told before tells the outcomes and nothing besides,
+-- and the cut.
 module _ (c : Case) (Z : Sized c) (n : ℕ) (B X : Question → Type 0) (nothing : (q : Question) → B q → ⊥) (W : Told c fresh (initial c) n B X) where
   yes : (q : Question) → Run c q (initial c) n → X q
   yes q d = ⊎-elim (λ x. x) (λ o. absurd (unspent c (Run c q) n (initial c) o)) (W .full q d)

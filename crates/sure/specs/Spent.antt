@@ -5,7 +5,6 @@ use Prim.Native.Nat.{ℕ, suc}
 use lib.Dec.{eqb, leb}
 use lib.ListN.{getD}
 use Rattle.words.specs.Sets.{has}
-use Rattle.cases.specs.declared.Case.{Case}
 use Rattle.rules.specs.Kinds.{reading, acquiring}
 use Rattle.rules.specs.State.{State, Action, kindOf, inputOf}
 use Rattle.rules.specs.Step.{Step, issue, commit, neither}

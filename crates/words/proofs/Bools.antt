@@ -38,6 +38,10 @@ and-make a b h k = rw (h, k)
 pub or-false : (a b : Bool) → a ≡ false → b ≡ false → (a || b) ≡ false
 or-false a b h k = rw (h, k)
 
+pub and-rest : (a b : Bool) → (a && b) ≡ false → a ≡ true → b ≡ false
+and-rest true b h e = h
+and-rest false b h e = absurd (false≢true e)
+
 pub and-left : (a b : Bool) → a ≡ false → (a && b) ≡ false
 and-left a b h = rw h
 

@@ -1,7 +1,8 @@
 use mathlib.Core.Path.{_≡_, refl}
 use mathlib.Core.Bool.{Bool, true, false, _&&_, not}
 use mathlib.Core.List.{List, [], _∷_}
-use Prim.Native.Nat.{ℕ}
+use Prim.Native.Nat.{ℕ, suc}
+use native.Mathlib.Omega.{arith}
 use borrow.Author.Tests.{eq-eqb, ne-eqb, le-leb, lt-leb, lt-ltb, le-ltb}
 use Rattle.words.specs.Refusals.{Refusal, _when_, firstOf}
 
@@ -34,3 +35,9 @@ pub not-no : (a : Bool) → a ≡ true → not a ≡ false
 not-no a h = rw h
 
 pub ruleset codes = (hit, miss, none, eq-eqb, ne-eqb, le-leb, lt-leb, lt-ltb, le-ltb, and-yes, and-no-left, and-no-right, not-yes, not-no)
+
+-- a list with no code that applies
+pub first-none : (k : ℕ) (b : Bool) (rest : List Refusal) → firstOf (suc k when b ∷ rest) ≡ 0 → (b ≡ false) × (firstOf rest ≡ 0)
+unfolding firstOf
+first-none k true rest h = absurd (omega arith)
+first-none k false rest h = (refl, h)

@@ -1,12 +1,12 @@
 -- Lists that are made of a function: elements and lengths. Assumes nothing.
-use mathlib.Core.Path.{_≡_, refl, ap, sym, _∙_, subst}
-use mathlib.Core.Bool.{Bool, true, _&&_}
+use mathlib.Core.Path.{_≡_, refl, ap, sym, _∙_}
+use mathlib.Core.Bool.{Bool, true}
 use mathlib.Core.List.{List, [], _∷_, _++_, map, append-assoc, append-nil}
-use Prim.Native.Nat.{ℕ, zero, suc, _+_, _*_, _<_, _≤_}
-use native.Mathlib.Nat.{add-zero, mul-zero, mul-suc, add-assoc, add-comm}
+use Prim.Native.Nat.{ℕ, zero, suc, _+_, _*_, _<_}
+use native.Mathlib.Nat.{add-zero, zero-add, mul-zero, mul-suc}
 use native.Mathlib.Omega.{arith}
 use native.Mathlib.Decide.{decLt}
-use lib.ListN.{length, getD, take, set, length-append, length-map, List·getD-append, List·getD-eq-default}
+use lib.ListN.{length, getD, take, set, length-append, length-map, List·getD-append}
 use lib.Seq.{ext-getD, getD-append-add, getD-set-same, getD-set-other, take-suc}
 use Rattle.words.specs.Small.{all, each, counting, concatMap}
 use Rattle.words.proofs.Bools.{and-both}
@@ -42,6 +42,14 @@ module _ {A : Type 0} (f : ℕ → A) where
   -- a list with f's values at its places is made of f
   pub each-is : (d : A) (l : List A) (n : ℕ) → length l ≡ n → ((i : ℕ) → i < n → getD l i d ≡ f i) → l ≡ each n f
   each-is d l n long same = ext-getD d l (each n f) (long ∙ sym (each-length n)) (λ i h. same i (omega arith) ∙ sym (each-at n i d (omega arith)))
+
+-- one value more, behind the others
+pub each-more : {A : Type 0} (f : ℕ → A) (n : ℕ) → each (suc n) f ≡ each n f ++ (f n ∷ [])
+each-more f n = more 0 n ∙ ap (λ (k : ℕ). each n f ++ (f k ∷ [])) (zero-add n)
+  where
+    more : (k n : ℕ) → map f (counting k (suc n)) ≡ map f (counting k n) ++ (f (k + n) ∷ [])
+    more k zero = ap (λ (i : ℕ). f i ∷ []) (sym (add-zero k))
+    more k (suc n) = let q : suc k + n ≡ k + suc n = omega arith in ap (λ (l : List _). f k ∷ l) (more (suc k) n ∙ ap (λ (i : ℕ). map f (counting (suc k) n) ++ (f i ∷ [])) q)
 
 pub each-same : {A : Type 0} (f g : ℕ → A) (n : ℕ) → ((i : ℕ) → i < n → f i ≡ g i) → each n f ≡ each n g
 each-same f g n h = each-is g (f 0) (each n f) n (each-length f n) (λ i k. each-at f n i (f 0) k ∙ h i k)

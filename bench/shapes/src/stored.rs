@@ -1,0 +1,70 @@
+//! Inputs of the two programs, stored as files with what the programs print for them.
+
+use model::ops::*;
+use model::{block, Lister, Outcome, Replayer, ENDING, RECORD};
+use states::States;
+
+use crate::lists::message;
+use crate::runs::refused_inputs;
+use crate::{lists, runs, usual};
+
+/// The records that the program `outcomes` has room for, and the bound that means the block's usual one.
+const ROOM: usize = 682;
+const USUAL: u8 = 255;
+
+/// Every stored file: its path and its bytes.
+pub fn stored() -> Vec<(String, Vec<u8>)> {
+    let replays = runs().into_iter().map(|run| {
+        let prints = format!("code {} after {} steps\n", run.code, run.steps);
+        (format!("replay/{}", run.name), [run.block, run.schedule].concat(), prints)
+    });
+    let outcomes = list_inputs().into_iter().map(|(name, input)| {
+        let prints = outcomes_prints(&input);
+        (format!("outcomes/{name}"), input, prints)
+    });
+    let files = replays.chain(outcomes);
+    files.flat_map(|(path, input, prints)| [(format!("{path}.in"), input), (format!("{path}.out"), prints.into())]).collect()
+}
+
+fn list_inputs() -> Vec<(&'static str, Vec<u8>)> {
+    let with = |block: &[u8], bound: u8| [block, &[bound]].concat();
+    let h = message().usual_bound(8).build().expect("a sound case").block();
+    let readers = usual(1, &[&[write(0, 1), write(0, 4)], &[2, 3, 4, 5, 6, 7].map(|d| read(d, 0))]);
+    let readers = readers.preset(0, 4, 2).build().expect("a sound case").block();
+    let mut inputs: Vec<_> = lists().iter().map(|shape| (shape.name, with(&shape.case.block(), shape.bound))).collect();
+    let refused = refused_inputs().into_iter().filter(|run| run.code < 8);
+    inputs.extend(refused.map(|run| (run.name, with(&run.block, USUAL))));
+    inputs.extend([
+        ("H-usual", with(&h, USUAL)),
+        ("bound-97", with(&h, 97)),
+        ("bound-254", with(&h, 254)),
+        ("length-0", vec![]),
+        ("length-512", h.to_vec()),
+        ("length-514", with(&with(&h, 8), 0)),
+        ("outcomes-729", with(&readers, 16)),
+    ]);
+    inputs
+}
+
+/// What the program `replay` prints for its input.
+pub fn replay_prints(input: &[u8]) -> String {
+    let (block, schedule) = input.split_at(input.len().min(block::LENGTH));
+    let replayed = States.replay(block, schedule, &mut [0; ENDING]);
+    format!("code {} after {} steps\n", replayed.code, replayed.steps)
+}
+
+/// What the program `outcomes` prints for its input.
+pub fn outcomes_prints(input: &[u8]) -> String {
+    let Some((&bound, block)) = input.split_last().filter(|(_, block)| block.len() == block::LENGTH) else {
+        return "refused 1\n".to_string();
+    };
+    let bound = if bound == USUAL { block[2] } else { bound };
+    let mut records = vec![0; ROOM * RECORD];
+    let listed = States.outcomes(block, bound.into(), &mut records);
+    if listed.code != 0 {
+        return format!("refused {}\n", listed.code);
+    }
+    let header = format!("outcomes {} cut {}\n", listed.count, if listed.cut { "yes" } else { "no" });
+    let line = |record: &[u8]| Outcome::read(record.try_into().expect("96 bytes")).line(block[0].into()) + "\n";
+    records.chunks_exact(RECORD).take(listed.count as usize).fold(header, |text, record| text + &line(record))
+}

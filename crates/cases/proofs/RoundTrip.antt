@@ -1,0 +1,132 @@
+-- Reading and writing undo each other, both ways; each answer is the only one. Assumes nothing.
+use mathlib.Core.Path.{_≡_, refl, ap, sym, _∙_, subst}
+use mathlib.Core.Logic.{_↔_}
+use mathlib.Core.List.{List, _++_}
+use Prim.Native.Nat.{ℕ, zero, suc, _+_, _*_, _<_}
+use native.Mathlib.Omega.{arith}
+use lib.Dec.{eqb}
+use lib.ListN.{length, getD, take, replicate, length-append, List·getD-append}
+use lib.Seq.{take-all, getD-take, getD-append-add}
+use borrow.Author.Tests.{eqb-true, eq-eqb, not-false}
+use Rattle.words.specs.Refusals.{firstOf}
+use Rattle.words.proofs.Bools.{cond-true}
+use Rattle.words.proofs.First.{first-none}
+use Rattle.cases.specs.declared.Case.{Case}
+use Rattle.cases.specs.declared.CaseRead.{CaseRead}
+use Rattle.cases.specs.Instruction.{two}
+use Rattle.cases.specs.Block.{word, check, faults, refusals, caseOf, readOf, answered, contents, blockOf, Sound, writeCode, written}
+use Rattle.cases.specs.Formed.{Bytes, Formed, Held}
+use Rattle.cases.proofs.Agree.{faults-same, check-same}
+use Rattle.cases.proofs.Decoding.{read-accepted, past-check}
+use Rattle.cases.proofs.Held.{clean, contents-back, word-part}
+use Rattle.cases.proofs.Kept.{case-same, contents-long, contents-kept}
+use Rattle.cases.proofs.Ranges.{block-bytes}
+use Rattle.cases.proofs.Slots.{two-back}
+
+-- what code 0 says of a block
+pub record Accepted (s : List ℕ) : Type 0 where
+  pub long : length s ≡ 512
+  pub checked : word s 510 ≡ check s
+  pub sound : firstOf (faults s) ≡ 0
+  pub held : readOf s .case ≡ caseOf s
+
+answered-code : (n : ℕ) (c : Case) → answered n c .code ≡ n
+answered-code zero c = refl
+answered-code (suc n) c = refl
+
+accepted : (s : List ℕ) → readOf s .code ≡ 0 → Accepted s
+unfolding readOf
+accepted s h =
+    let z = sym (answered-code (firstOf (refusals s)) (caseOf s)) ∙ h in
+    let a = first-none 0 _ _ z in
+    let b = first-none 1 _ _ (a .1) in
+    record {
+      long = eqb-true (length s) 512 (not-false _ (a .0));
+      checked = eqb-true (word s 510) (check s) (not-false _ (b .0));
+      sound = b .1;
+      held = ap (λ (n : ℕ). answered n (caseOf s) .case) z;
+    }
+
+-- a buffer of 512 bytes: the code is the case's own
+written-code : (c : Case) → firstOf (faults (contents c)) ≡ writeCode c 512
+unfolding writeCode firstOf
+written-code c = refl
+
+written-sound : (c : Case) → Sound c → written c 512 ≡ blockOf c
+unfolding written
+written-sound c h = cond-true (eqb (writeCode c 512) 0) (blockOf c) (replicate 512 0) (eq-eqb (writeCode c 512) 0 (sym (written-code c) ∙ h))
+
+-- the bytes of the case that an accepted block holds
+
+module _ (s : List ℕ) (bytes : Bytes s) (a : Accepted s) where
+  front : contents (caseOf s) ≡ take 510 s
+  front = contents-back s (a .long) bytes (clean s (a .sound))
+
+  agrees : (i : ℕ) → i < 510 → getD (contents (caseOf s)) i 0 ≡ getD s i 0
+  agrees i h = ap (λ (l : List ℕ). getD l i 0) front ∙ getD-take 510 s i 0 h
+
+  case-sound : Sound (caseOf s)
+  case-sound = faults-same (contents (caseOf s)) s agrees ∙ a .sound
+
+  block-back : blockOf (caseOf s) ≡ s
+  unfolding blockOf
+  block-back =
+      (λ t. front t ++ two (check-same (contents (caseOf s)) s agrees t))
+      ∙ ap (λ (n : ℕ). take 510 s ++ two n) (sym (a .checked))
+      ∙ sym (word-part s (a .long) bytes (clean s (a .sound)) 510 (omega arith))
+      ∙ take-all 512 s (omega (arith, a .long))
+
+-- A block that is read with code 0 and written again is the same 512 bytes.
+pub written-read : (s : List ℕ) → Bytes s → readOf s .code ≡ 0 → (writeCode (readOf s .case) 512 ≡ 0) × (written (readOf s .case) 512 ≡ s)
+written-read s bytes h =
+    let a = accepted s h in
+    let sound = case-sound s bytes a in (
+      ap (λ (c : Case). writeCode c 512) (a .held) ∙ sym (written-code (caseOf s)) ∙ sound,
+      ap (λ (c : Case). written c 512) (a .held) ∙ written-sound (caseOf s) sound ∙ block-back s bytes a,
+    )
+
+-- the block of a sound case
+
+module _ (c : Case) (f : Formed c) where
+  long : length (contents c) ≡ 510
+  long = contents-long c (f .counts .0) (f .masks .0) (f .presets .0) (f .memory .0) (f .code .0)
+
+  below : (i : ℕ) → i < 510 → getD (blockOf c) i 0 ≡ getD (contents c) i 0
+  unfolding blockOf
+  below i h = List·getD-append (contents c) (two (check (contents c))) 0 i (omega (arith, long))
+
+  above : (i : ℕ) → getD (blockOf c) (510 + i) 0 ≡ getD (two (check (contents c))) i 0
+  unfolding blockOf
+  above i = ap (λ (n : ℕ). getD (blockOf c) (n + i) 0) (sym long) ∙ getD-append-add (contents c) (two (check (contents c))) i 0
+
+  block-long : length (blockOf c) ≡ 512
+  unfolding blockOf
+  block-long = length-append (contents c) (two (check (contents c))) ∙ ap (λ (n : ℕ). n + 2) long
+
+  block-check : word (blockOf c) 510 ≡ check (blockOf c)
+  block-check = (λ t. above 0 t + 256 * above 1 t) ∙ two-back (check (contents c)) ∙ sym (check-same (blockOf c) (contents c) below)
+
+  block-read : Sound c → readOf (blockOf c) ≡ record { code = 0; case = c }
+  block-read h =
+      let code = sym (past-check (blockOf c) block-long block-check) ∙ faults-same (blockOf c) (contents c) below ∙ h in
+      let kept = case-same (blockOf c) (contents c) below ∙ contents-kept c (f .counts .0) (f .masks .0) (f .presets .0) (f .memory .0) (f .code .0) in
+      sym (read-accepted (blockOf c) 0 c (sym code) refl (sym kept))
+
+  -- A record that is written with code 0 and read again is the same record.
+  pub read-written : writeCode c 512 ≡ 0 → readOf (written c 512) ≡ record { code = 0; case = c }
+  read-written h = let sound = written-code c ∙ h in ap readOf (written-sound c sound) ∙ block-read sound
+
+  -- A case is sound exactly if some block holds it.
+  pub sound-held : Sound c ↔ Held c
+  sound-held = (
+    λ h. record { block = blockOf c; bytes = block-bytes c f; read = block-read h },
+    λ h. let a = accepted (h .block) (ap (λ (r : CaseRead). r .code) (h .read)) in subst Sound (sym (a .held) ∙ ap (λ (r : CaseRead). r .case) (h .read)) (case-sound (h .block) (h .bytes) a),
+  )
+
+-- At most one answer is right for a block.
+pub read-unique : (s : List ℕ) (r r′ : CaseRead) → r ≡ readOf s → r′ ≡ readOf s → r ≡ r′
+read-unique s r r′ p q = p ∙ sym q
+
+-- At most one code and one buffer are right for a record and a size.
+pub write-unique : (c : Case) (size code code′ : ℕ) (block block′ : List ℕ) → (code ≡ writeCode c size) × (block ≡ written c size) → (code′ ≡ writeCode c size) × (block′ ≡ written c size) → (code ≡ code′) × (block ≡ block′)
+write-unique c size code code′ block block′ p q = (p .0 ∙ sym (q .0), p .1 ∙ sym (q .1))

@@ -1,0 +1,197 @@
+-- A machine with one entry more. Assumes nothing.
+use mathlib.Core.Path.{_≡_, refl, sym, _∙_, ap, subst, fun-ext}
+use mathlib.Core.Logic.{_⊎_, inl, inr, ⊎-elim}
+use mathlib.Core.Bool.{Bool, true, false, cond, _&&_, false≢true}
+use mathlib.Core.List.{List}
+use mathlib.Core.Option.{Option, none, some}
+use Prim.Native.Nat.{ℕ, suc, _+_, _*_, _-_, _%_, _≤_, _<_}
+use native.Mathlib.Numerals.{add-one}
+use native.Mathlib.Omega.{arith}
+use lib.Dec.{eqb, ltb, leb}
+use lib.ListN.{length, getD, set, length-set}
+use lib.Seq.{getD-set-same, getD-set-other}
+use borrow.Author.Tests.{ltb-true, lt-ltb, le-ltb, eqb-true, eqb-false, leb-false}
+use Rattle.words.specs.Small.{put, isNone, orZero}
+use Rattle.words.proofs.Bools.{decide, and-both, cond-true, cond-false}
+use Rattle.cases.specs.declared.Case.{Case}
+use Rattle.cases.specs.declared.Instr.{Instr}
+use Rattle.cases.specs.declared.Instr.the-variants.{Empty, Read, Write, Local, Branch, Goto, Acquire, Release}
+use Rattle.cases.specs.Case.{countOf, instrAt}
+use Rattle.rules.specs.Kinds.{assigns}
+use Rattle.rules.specs.Order.{joinedIf}
+use Rattle.rules.specs.State.{Name, given, Action, standsAt}
+use Rattle.rules.specs.Issue.{placeAfter, renamed, earlier, newAction, issued}
+use Rattle.rules.specs.Step.{issue, stepCode}
+use Rattle.rules.proofs.Accepted.{CanIssue, can-issue}
+use Rattle.orders.specs.Rows.{orderOf}
+use Rattle.orders.proofs.Reached.{ltb-next}
+use Rattle.machine.specs.declared.Entry.{Entry}
+use Rattle.machine.specs.declared.Machine.{Machine}
+use Rattle.machine.specs.Shown.{shownEntry, blankEntry, actionsOf, shown, nameOf, namesOf, placeOf}
+use Rattle.machine.specs.Fit.{Fine}
+use Rattle.machine.specs.Valid.{Valid, ValidEntry, ValidPlace}
+use Rattle.machine.proofs.Stores.{set-put, set-all, actions-set, place-some}
+use Rattle.issuing.specs.Issued.{assignedBy, placeBy, fresh, entered, Entered}
+use Rattle.issuing.proofs.Binding.{fresh-is, new-low}
+
+next-place : (n : ℕ) → n < 12 → (placeOf (n + 1) ≡ some (suc n)) × ValidPlace (n + 1)
+next-place n h = (place-some (n + 1) (λ e. omega arith) ∙ ap some (add-one n), inr (omega arith))
+
+pub place-by : (i : Instr) (n : ℕ) → Fine i → n < 12 → (placeOf (placeBy i n) ≡ placeAfter i n) × ValidPlace (placeBy i n)
+place-by Empty n f h = absurd f
+place-by (Read d a) n f h = next-place n h
+place-by (Write a b) n f h = next-place n h
+place-by (Local d e) n f h = next-place n h
+place-by (Branch a l) n f h = (refl, inl refl)
+place-by (Goto l) n f h = let q : l % 256 ≡ l = omega arith in rw q (place-some l (λ e. omega arith), inr f)
+place-by (Acquire a) n f h = next-place n h
+place-by (Release a) n f h = next-place n h
+
+assigned-some : (i : Instr) → Fine i → assignedBy i < 8 → assigns i ≡ some (assignedBy i)
+assigned-some Empty f h = absurd f
+assigned-some (Read d a) f h = refl
+assigned-some (Write a b) f h = absurd (omega arith)
+assigned-some (Local d e) f h = refl
+assigned-some (Branch a l) f h = absurd (omega arith)
+assigned-some (Goto l) f h = absurd (omega arith)
+assigned-some (Acquire a) f h = absurd (omega arith)
+assigned-some (Release a) f h = absurd (omega arith)
+
+assigned-none : (i : Instr) → Fine i → 8 ≤ assignedBy i → assigns i ≡ none
+assigned-none Empty f h = absurd f
+assigned-none (Read d a) f h = absurd (omega (arith, f .0))
+assigned-none (Write a b) f h = refl
+assigned-none (Local d e) f h = absurd (omega (arith, f .0))
+assigned-none (Branch a l) f h = refl
+assigned-none (Goto l) f h = refl
+assigned-none (Acquire a) f h = refl
+assigned-none (Release a) f h = refl
+
+given-name : (c : Case) (k : ℕ) → nameOf c (32 + k) ≡ given k
+given-name c k = let q : 32 + k - 32 ≡ k = omega arith in rw (le-ltb (32 + k) 32 (omega arith), q)
+
+module _ (c : Case) (names : List ℕ) (p d k v : ℕ) (long : length names ≡ 32) (hp : p < 4) (hd : d < 8) (hv : v ≡ 32 + k) where
+  abbrev stored : List ℕ
+  stored = set names (8 * p + d) v
+
+  abbrev target : ℕ → ℕ → Name
+  target = put (namesOf c names) p (put (namesOf c names p) d (given k))
+
+  stored-same : namesOf c stored p d ≡ given k
+  stored-same = rw (lt-ltb p 4 hp, lt-ltb d 8 hd, getD-set-same names (8 * p + d) v 0 (omega arith)) (ap (nameOf c) hv ∙ given-name c k)
+
+  stored-other : (q j : ℕ) → ((q ≡ p) × (j ≡ d) → ⊥) → namesOf c stored q j ≡ namesOf c names q j
+  stored-other q j n = ⊎-elim inside outside (decide (ltb q 4 && ltb j 8))
+    where
+      apart : q < 4 → j < 8 → 8 * q + j ≡ 8 * p + d → ⊥
+      apart a b e = n (omega arith, omega arith)
+
+      inside : (ltb q 4 && ltb j 8) ≡ true → namesOf c stored q j ≡ namesOf c names q j
+      inside h = let u = and-both (ltb q 4) (ltb j 8) h in rw h (ap (nameOf c) (getD-set-other names (8 * p + d) (8 * q + j) v 0 (apart (ltb-true q 4 (u .0)) (ltb-true j 8 (u .1)))))
+
+      outside : (ltb q 4 && ltb j 8) ≡ false → namesOf c stored q j ≡ namesOf c names q j
+      outside h = rw h
+
+  names-put : namesOf c stored ≡ target
+  names-put = fun-ext (λ (q : ℕ). fun-ext (at q))
+    where
+      at : (q j : ℕ) → namesOf c stored q j ≡ target q j
+      at q j = ⊎-elim here there (decide (eqb q p))
+        where
+          row : eqb q p ≡ true → target q j ≡ put (namesOf c names p) d (given k) j
+          row h = ap (λ (f : ℕ → Name). f j) (cond-true (eqb q p) _ _ h)
+
+          here : eqb q p ≡ true → namesOf c stored q j ≡ target q j
+          here h = ⊎-elim
+              (λ e. ap (λ (x : ℕ). namesOf c stored x j) (eqb-true q p h) ∙ ap (namesOf c stored p) (eqb-true j d e) ∙ stored-same ∙ sym (row h ∙ cond-true (eqb j d) _ _ e))
+              (λ e. stored-other q j (λ n. eqb-false j d e (n .1)) ∙ ap (λ (x : ℕ). namesOf c names x j) (eqb-true q p h) ∙ sym (row h ∙ cond-false (eqb j d) _ _ e))
+              (decide (eqb j d))
+
+          there : eqb q p ≡ false → namesOf c stored q j ≡ target q j
+          there h = stored-other q j (λ n. eqb-false q p h (n .0)) ∙ sym (ap (λ (f : ℕ → Name). f j) (cond-false (eqb q p) _ _ h))
+
+pub names-some : (c : Case) (names : List ℕ) (p k d v : ℕ) (i : Instr) → length names ≡ 32 → p < 4 → Fine i → d ≡ assignedBy i → d < 8 → v ≡ 32 + k
+    → namesOf c (set names (8 * p + d) v) ≡ put (namesOf c names) p (renamed (namesOf c names p) (assigns i) (given k))
+names-some c names p k d v i long low f q lt e = names-put c names p d k v long low lt e ∙ sym (ap (λ (o : Option ℕ). put (namesOf c names) p (renamed (namesOf c names p) o (given k))) (assigned-some i f (omega arith) ∙ ap some (sym q)))
+
+put-same : {A : Type 0} (f : ℕ → A) (p : ℕ) → f ≡ put f p (f p)
+put-same f p = fun-ext (λ (q : ℕ). ⊎-elim (λ h. rw h (ap f (eqb-true q p h))) (λ h. rw h) (decide (eqb q p)))
+
+pub names-none : (c : Case) (names : List ℕ) (p k d : ℕ) (i : Instr) → Fine i → d ≡ assignedBy i → 8 ≤ d
+    → namesOf c names ≡ put (namesOf c names) p (renamed (namesOf c names p) (assigns i) (given k))
+names-none c names p k d i f q le = put-same (namesOf c names) p ∙ sym (ap (λ (o : Option ℕ). put (namesOf c names) p (renamed (namesOf c names p) o (given k))) (assigned-none i f (omega arith)))
+
+abbrev grown : Machine → ℕ → ℕ → List ℕ → Entry → List ℕ → Machine
+grown m p place names e rows = record { issued = m .issued + 1; places = set (m .places) p place; names = names; holders = m .holders; acts = set (m .acts) (m .issued) e; rows = rows }
+
+module _ (c : Case) (m : Machine) (p place : ℕ) (names : List ℕ) (e : Entry) (rows : List ℕ) (v : Valid c m) (low : p < 4) (room : m .issued < 48) (ok : ValidEntry e) where
+  actions-grown : actionsOf c (m .issued + 1) (set (m .acts) (m .issued) e) ≡ put (actionsOf c (m .issued) (m .acts)) (m .issued) (shownEntry c e)
+  actions-grown = actions-set c (m .issued) (m .issued + 1) (m .issued) (m .acts) e (omega arith) (omega (arith, v .acts-long)) (λ k h. ltb-next k (m .issued) h)
+
+  pub grown-is : place ≡ placeBy (e .instr) (e .place) → namesOf c names ≡ put (namesOf c (m .names)) p (renamed (namesOf c (m .names) p) (assigns (e .instr)) (given (m .issued))) → length names ≡ 32
+      → ((l : ℕ) → orderOf rows l ≡ joinedIf (ltb l (c .locs) && standsAt l (shownEntry c e)) (orderOf (m .rows) l) (8 + m .issued) (8 + m .issued) (earlier c (shown c m) p l)) → length rows ≡ 448
+      → Entered c m p e (grown m p place names e rows)
+  grown-is hp hn ln ho lr =
+      let at = place-by (e .instr) (e .place) (ok .fine) (ok .place) in
+      let n = add-one (m .issued) in
+      let u = actions-grown in
+      let w = set-put placeOf (m .places) 0 p place (placeAfter (e .instr) (e .place)) (omega (arith, v .places-long)) (ap placeOf hp ∙ at .0) in
+      let o = fun-ext ho in
+      record {
+        shows = λ j. record { count = n j; actions = u j; places = w j; names = hn j; holders = shown c m .holders; orders = o j };
+        valid = record {
+          fit = v .fit;
+          issued = omega arith;
+          acts-long = length-set (m .acts) (m .issued) e ∙ v .acts-long;
+          places-long = length-set (m .places) p place ∙ v .places-long;
+          names-long = ln;
+          holders-long = v .holders-long;
+          rows-long = lr;
+          places = set-all ValidPlace (m .places) 0 4 p place (omega (arith, v .places-long)) (subst ValidPlace (sym hp) (at .1)) (λ q h n. v .places q h);
+          entries = set-all ValidEntry (m .acts) blankEntry (m .issued + 1) (m .issued) e (omega (arith, v .acts-long)) ok (λ q h n. v .entries q (omega arith));
+        };
+      }
+
+-- an accepted issue
+module _ (c : Case) (m : Machine) (p : ℕ) (v : Valid c m) (go : stepCode c (shown c m) (issue p) ≡ 0) where
+  abbrev at : ℕ
+  at = getD (m .places) p 0
+
+  can : CanIssue c (shown c m) p
+  can = can-issue c (shown c m) p go
+
+  pub issue-low : p < 4
+  issue-low = omega (arith, can .proc, v .fit .procs)
+
+  pub issue-room : m .issued < 48
+  issue-room = leb-false 48 (m .issued) (can .room)
+
+  there : placeOf at ≡ some at
+  there = defined (eqb at 255) (can .place)
+    where
+      defined : (b : Bool) → isNone (cond b none (some at)) ≡ false → cond b none (some at) ≡ some at
+      defined true h = absurd (false≢true (sym h))
+      defined false h = refl
+
+  pub issue-inside : at < countOf c p
+  issue-inside = leb-false (countOf c p) at (subst (λ (o : Option ℕ). leb (countOf c p) (orZero o) ≡ false) there (can .inside))
+
+  pub issue-fine : Fine (instrAt c p at)
+  issue-fine = v .fit .fine p at issue-low issue-inside
+
+  pub issue-new : (e : Entry) → shownEntry c e ≡ fresh (shown c m) p at (instrAt c p at) → shownEntry c e ≡ newAction c (shown c m) p
+  issue-new e h =
+      h
+      ∙ ap (λ (o : Option ℕ). fresh (shown c m) p (orZero o) (instrAt c p (orZero o))) (sym there)
+      ∙ fresh-is c (shown c m) p (v .fit .locs) (can .low)
+
+  pub issue-entry : (e : Entry) → shownEntry c e ≡ fresh (shown c m) p at (instrAt c p at) → ValidEntry e
+  issue-entry e h = record {
+    fine = subst Fine (sym (ap (λ (a : Action). a .instr) h)) issue-fine;
+    place = omega (arith, ap (λ (a : Action). a .place) h, issue-inside, v .fit .counts p);
+    loc = omega (arith, ap (λ (a : Action). a .loc) (issue-new e h), new-low c (shown c m) p (v .fit .locs) (can .low));
+  }
+
+  pub issue-shows : (e : Entry) (r : Machine) → shownEntry c e ≡ fresh (shown c m) p at (instrAt c p at) → Entered c m p e r → (shown c r ≡ issued c (shown c m) p) × Valid c r
+  unfolding issued
+  issue-shows e r h u = (u .shows ∙ ap (entered c (shown c m) p) (issue-new e h), u .valid)

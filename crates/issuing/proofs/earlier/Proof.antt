@@ -1,0 +1,86 @@
+use mathlib.Core.Path.{_≡_, _∙_, sym, ap, subst}
+use Prim.Native.Nat.{ℕ, _+_, _≤_, _-_}
+use mathlib.Core.Bool.{_&&_}
+use lib.Dec.{eqb}
+use native.Mathlib.Omega.{arith}
+use Rattle.cases.specs.declared.Case.{Case}
+use Rattle.rules.specs.State.{State, Action, standsAt}
+use Rattle.rules.specs.Issue.{earlier as earlierOf}
+use Rattle.orders.specs.Rows.{SetOf}
+use Rattle.machine.specs.Shown.{Acts}
+use Rattle.machine.proofs.Entries.{action-at}
+use Rattle.machine.proofs.Items.{item-is, first-item}
+use borrow.Author.Needs.{needs}
+use Rattle.issuing.proofs.earlier.Statement.{statement}
+use Rattle.issuing.proofs.earlier.Tie as tie
+
+abbrev Inv-loop : tie.InvT-loop
+Inv-loop issued p l acts items₀ k₀ items k = (k ≤ issued) × ((c : Case) (s : State) → Acts c issued acts s → SetOf (8 + k) (earlierOf c s p l) items)
+
+abbrev μ-loop : tie.MeasureT-loop
+μ-loop issued p l acts items₀ k₀ items k = issued - k
+
+one-requires : tie.Need-one-requires Inv-loop μ-loop
+one-requires c κs = search needs
+
+loop-holds : tie.Need-loop-holds Inv-loop μ-loop
+loop-holds c =
+    let a = c .before .args in
+    (search needs, λ k s h. subst (SetOf 8 (earlierOf k s (a .p) (a .l))) (sym (c .one .ensures)) (first-item (λ x. eqb (x .proc) (a .p) && standsAt (a .l) x) s (a .l) (c .before .pre .2)))
+
+mul-e : tie.Need-mul-e Inv-loop μ-loop
+mul-e c = search needs
+
+array-copy-out-e : tie.Need-array-copy-out-e Inv-loop μ-loop
+array-copy-out-e c = search needs
+
+own-requires : tie.Need-own-requires Inv-loop μ-loop
+own-requires c κs = search needs
+
+add-with : tie.Need-add-with Inv-loop μ-loop
+add-with c = search needs
+
+with-requires : tie.Need-with-requires Inv-loop μ-loop
+with-requires c κs = search needs
+
+add-k : tie.Need-add-k Inv-loop μ-loop
+add-k c = search needs
+
+loop-less : tie.Need-loop-less Inv-loop μ-loop
+loop-less c = search needs
+
+loop-again : tie.Need-loop-again Inv-loop μ-loop
+loop-again c =
+    let at = c .before .before .before .before in
+    let a = c .before .before .before .before .before .before .args in
+    let n = at .loop .k in
+    let q : 8 + n + 1 ≡ 8 + (n + 1) = omega arith in (
+      search needs,
+      λ k s h. subst (λ (x : ℕ). SetOf x (earlierOf k s (a .p) (a .l)) (c .with .result)) q
+          (c .with .ensures (earlierOf k s (a .p) (a .l)) (at .loop .inv .1 k s h)
+          (c .before .own .ensures k ∙ ap (λ (x : Action). eqb (x .proc) (a .p) && standsAt (a .l) x) (sym (action-at k (a .issued) (a .t1) s h n (omega arith))) ∙ sym (item-is (λ x. eqb (x .proc) (a .p) && standsAt (a .l) x) s (eqb (8 + n) (a .l)) n))),
+    )
+
+returns : tie.Need-returns Inv-loop μ-loop
+returns c =
+    let a = c .before .before .before .args in
+    let q : c .before .loop .k ≡ a .issued = omega arith in
+    λ k s h. subst (λ (n : ℕ). SetOf (8 + n) (earlierOf k s (a .p) (a .l)) (c .before .loop .items)) q (c .before .loop .inv .1 k s h)
+
+pub earlier-spec : {M : Type 1} → statement M
+earlier-spec =
+    tie.close
+    (tie.spec
+    Inv-loop
+    μ-loop
+    one-requires
+    loop-holds
+    mul-e
+    array-copy-out-e
+    own-requires
+    add-with
+    with-requires
+    add-k
+    loop-less
+    loop-again
+    returns)

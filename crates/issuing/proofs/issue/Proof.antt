@@ -1,0 +1,75 @@
+use mathlib.Core.Path.{_≡_, sym, refl, subst}
+use Prim.Native.Nat.{ℕ}
+use native.Mathlib.Omega.{arith}
+use lib.ListN.{getD}
+use Rattle.cases.specs.Case.{instrAt}
+use Rattle.machine.specs.Shown.{shown, shownEntry}
+use Rattle.machine.specs.Fit.{Fine}
+use Rattle.issuing.specs.Issued.{fresh}
+use Rattle.issuing.proofs.Entering.{issue-low, issue-room, issue-inside, issue-fine, issue-entry, issue-shows}
+use borrow.Author.Needs.{needs}
+use Rattle.issuing.proofs.issue.Statement.{statement}
+use Rattle.issuing.proofs.issue.Tie as tie
+
+element-copy-out-place : tie.Need-element-copy-out-place
+element-copy-out-place c = let b = c .before in issue-low (b .args .t1) (b .args .t2) (b .args .p) (b .pre .0) (b .pre .1)
+
+mul-s : tie.Need-mul-s
+mul-s c = let b = c .before .before in let q = issue-low (b .args .t1) (b .args .t2) (b .args .p) (b .pre .0) (b .pre .1) in search needs
+
+wide-requires : tie.Need-wide-requires
+wide-requires c κs = search needs
+
+add-s : tie.Need-add-s
+add-s c = let b = c .before .before .before in let q = issue-low (b .args .t1) (b .args .t2) (b .args .p) (b .pre .0) (b .pre .1) in search needs
+
+mul-s-2 : tie.Need-mul-s-2
+mul-s-2 c =
+    let b = c .before .before .before in
+    let q = issue-low (b .args .t1) (b .args .t2) (b .args .p) (b .pre .0) (b .pre .1) in
+    let i = issue-inside (b .args .t1) (b .args .t2) (b .args .p) (b .pre .0) (b .pre .1) in
+    search needs
+
+element-copy-out-s : tie.Need-element-copy-out-s
+element-copy-out-s c =
+    let b = c .before .before .before in
+    omega (arith, issue-low (b .args .t1) (b .args .t2) (b .args .p) (b .pre .0) (b .pre .1), issue-inside (b .args .t1) (b .args .t2) (b .args .p) (b .pre .0) (b .pre .1), b .pre .0 .fit .counts (b .args .p), c .wide .ensures .0)
+
+new-entry-requires : tie.Need-new-entry-requires
+new-entry-requires c κs =
+    let b = c .before .before .before .before .before .before in
+    let a = b .args in
+    let v = b .pre .0 in
+    (v .issued, v .acts-long, v .names-long, issue-low (a .t1) (a .t2) (a .p) v (b .pre .1), subst (λ (n : ℕ). Fine (instrAt (a .t1) (a .p) n)) (sym (c .before .before .before .wide .ensures .0)) (issue-fine (a .t1) (a .t2) (a .p) v (b .pre .1)))
+
+enter-requires : tie.Need-enter-requires
+enter-requires c κs =
+    let b = c .before .before .before .before .before .before .before in
+    let a = b .args in
+    let v = b .pre .0 in
+    let w = c .before .before .before .before .wide .ensures .0 in
+    let h = subst (λ (n : ℕ). shownEntry (a .t1) (c .new-entry .result) ≡ fresh (shown (a .t1) (a .t2)) (a .p) (getD (a .t2 .places) (a .p) 0) (instrAt (a .t1) (a .p) n)) w (c .new-entry .ensures (shown (a .t1) (a .t2)) (record { count = refl; actions = refl }) refl) in
+    (v, issue-low (a .t1) (a .t2) (a .p) v (b .pre .1), issue-room (a .t1) (a .t2) (a .p) v (b .pre .1), issue-entry (a .t1) (a .t2) (a .p) v (b .pre .1) (c .new-entry .result) h)
+
+returns : tie.Need-returns
+returns c =
+    let b = c .before .before .before .before .before .before .before .before in
+    let a = b .args in
+    let v = b .pre .0 in
+    let w = c .before .before .before .before .before .wide .ensures .0 in
+    let h = subst (λ (n : ℕ). shownEntry (a .t1) (c .before .new-entry .result) ≡ fresh (shown (a .t1) (a .t2)) (a .p) (getD (a .t2 .places) (a .p) 0) (instrAt (a .t1) (a .p) n)) w (c .before .new-entry .ensures (shown (a .t1) (a .t2)) (record { count = refl; actions = refl }) refl) in
+    issue-shows (a .t1) (a .t2) (a .p) v (b .pre .1) (c .before .new-entry .result) (c .enter .result) h (c .enter .ensures)
+
+pub issue-spec : {M : Type 1} → statement M
+issue-spec =
+    tie.close
+    (tie.spec
+    element-copy-out-place
+    mul-s
+    wide-requires
+    add-s
+    mul-s-2
+    element-copy-out-s
+    new-entry-requires
+    enter-requires
+    returns)

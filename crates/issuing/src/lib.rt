@@ -1,0 +1,293 @@
+// Issue: the code that it gets, and the machine after it.
+use cases::Case;
+use cases::Expr;
+use cases::Instr;
+use machine::Entry;
+use machine::Machine;
+use machine::Value;
+ghost use mathlib.Core.Path.{_≡_};
+ghost use mathlib.Core.Bool.{_&&_, cond};
+ghost use mathlib.Core.List.{[], _∷_};
+ghost use Prim.Native.Nat.{ℕ, _+_, _%_, _≤_, _<_};
+ghost use lib.Dec.{eqb, ltb, leb};
+ghost use lib.ListN.{length, getD};
+ghost use Rattle.words.specs.Small.{isNone, orZero};
+ghost use Rattle.words.specs.Refusals.{_when_, firstOf};
+ghost use Rattle.cases.specs.declared.Case.{Case as TheCase};
+ghost use Rattle.rules.specs.Kinds.{kind, accesses, reads};
+ghost use Rattle.rules.specs.Order.{joinedIf};
+ghost use Rattle.rules.specs.State.{State, valueOf, standsAt};
+ghost use Rattle.rules.specs.Issue.{earlier as earlierOf, issueRefusals, issued as issuedOf};
+ghost use Rattle.rules.specs.Step.{issue as issueStep, stepCode};
+ghost use Rattle.orders.specs.Rows.{orderOf, SetOf};
+ghost use Rattle.machine.specs.Shown.{nameOf, namesOf, placeOf, shownValue, shownEntry, shown, Acts};
+ghost use Rattle.machine.specs.Fit.{Fine, Fit};
+ghost use Rattle.machine.specs.Valid.{Valid, ValidEntry};
+ghost use Rattle.issuing.specs.Issued.{assignedBy, placeBy, fresh, Entered};
+
+// Whether the entry has an item in the order of location l.
+pub fn stands(e: Entry, l: usize) -> bool
+    ensures { λ r. ⌜ ((c : TheCase) → r ≡ standsAt l (shownEntry c e)) ⌝ }
+{
+    let i = e.instr;
+    let loc = words::wide(e.loc);
+    let k = rules::kind_of(i);
+    ((k == 6) | (k == 7)) | (((k == 1) | (k == 2)) & (loc == l))
+}
+
+// Whether that item is one of processor p.
+pub fn own(e: Entry, p: usize, l: usize) -> bool
+    ensures { λ r. ⌜ ((c : TheCase) → r ≡ (eqb (shownEntry c e .proc) p && standsAt l (shownEntry c e))) ⌝ }
+{
+    let proc = words::wide(e.proc);
+    let s = stands(e, l);
+    (proc == p) & s
+}
+
+// The items that a new one of processor p stands after, in the order of location l.
+pub fn earlier(acts: [Entry; 48], issued: usize, p: usize, l: usize) -> u64
+    requires { ⌜ (issued ≤ 48) × (length acts ≡ 48) × (l < 8) ⌝ }
+    ensures { λ r. ⌜ ((c : TheCase) (s : State) → Acts c issued acts s → SetOf (8 + issued) (earlierOf c s p l) r) ⌝ }
+{
+    let mut items = words::one(l);
+    let mut k: usize = 0;
+    while k < issued {
+        let e = acts[k];
+        let test = own(e, p, l);
+        items = orders::with(items, 8 + k, test);
+        k += 1;
+    }
+    items
+}
+
+// The item of a new entry e of processor p joins the order of each location that it stands in.
+pub fn join_orders(
+    rows: &mut [u64; 448],
+    acts: [Entry; 48],
+    issued: usize,
+    p: usize,
+    e: Entry,
+    locs: u8,
+)
+    requires { ⌜ (issued < 48) × (length acts ≡ 48) × (length (now rows) ≡ 448) × (locs ≤ 8) ⌝ }
+    ensures { λ _. ⌜ (length (now (rows .exit)) ≡ 448) × ((c : TheCase) (s : State) → Acts c issued acts s → (l : ℕ) → orderOf (now (rows .exit)) l ≡ joinedIf (ltb l locs && standsAt l (shownEntry c e)) (orderOf (now (rows .entry)) l) (8 + issued) (8 + issued) (earlierOf c s p l)) ⌝ }
+{
+    let top = words::wide(locs);
+    let mut l: usize = 0;
+    while l < top {
+        if stands(e, l) {
+            let items = earlier(acts, issued, p, l);
+            orders::join(rows, l, 8 + issued, items, 8 + issued);
+        }
+        l += 1;
+    }
+}
+
+// The first register that an instruction reads, its address register, or 0.
+pub fn first_read(i: Instr) -> u8
+    ensures { λ r. ⌜ r ≡ getD (reads i) 0 0 ⌝ }
+{
+    match i {
+        Instr::Empty => 0,
+        Instr::Read(_, a) => a,
+        Instr::Write(a, _) => a,
+        Instr::Local(_, e) => match e {
+            Expr::Constant(_) => 0,
+            Expr::Sum(a, _) => a,
+            Expr::Difference(a, _) => a,
+            Expr::Equal(a, _) => a,
+        },
+        Instr::Branch(a, _) => a,
+        Instr::Goto(_) => 0,
+        Instr::Acquire(a) => a,
+        Instr::Release(a) => a,
+    }
+}
+
+// The second register that an instruction reads, or 0.
+pub fn second_read(i: Instr) -> u8
+    ensures { λ r. ⌜ r ≡ getD (reads i) 1 0 ⌝ }
+{
+    match i {
+        Instr::Empty => 0,
+        Instr::Read(_, _) => 0,
+        Instr::Write(_, b) => b,
+        Instr::Local(_, e) => match e {
+            Expr::Constant(_) => 0,
+            Expr::Sum(_, b) => b,
+            Expr::Difference(_, b) => b,
+            Expr::Equal(_, b) => b,
+        },
+        Instr::Branch(_, _) => 0,
+        Instr::Goto(_) => 0,
+        Instr::Acquire(_) => 0,
+        Instr::Release(_) => 0,
+    }
+}
+
+// The place counter after an issue; 255 is undefined.
+pub fn place_after(i: Instr, place: u8) -> u8
+    requires { ⌜ place < 12 ⌝ }
+    ensures { λ r. ⌜ r ≡ placeBy i place ⌝ }
+{
+    match i {
+        Instr::Empty => place + 1,
+        Instr::Read(_, _) => place + 1,
+        Instr::Write(_, _) => place + 1,
+        Instr::Local(_, _) => place + 1,
+        Instr::Branch(_, _) => 255,
+        Instr::Goto(l) => (l % 256) as u8,
+        Instr::Acquire(_) => place + 1,
+        Instr::Release(_) => place + 1,
+    }
+}
+
+// The register that an instruction assigns, or 8.
+pub fn assigned(i: Instr) -> u8
+    ensures { λ r. ⌜ r ≡ assignedBy i ⌝ }
+{
+    match i {
+        Instr::Empty => 8,
+        Instr::Read(d, _) => d,
+        Instr::Write(_, _) => 8,
+        Instr::Local(d, _) => d,
+        Instr::Branch(_, _) => 8,
+        Instr::Goto(_) => 8,
+        Instr::Acquire(_) => 8,
+        Instr::Release(_) => 8,
+    }
+}
+
+// What register n, counted over all processors, is bound to.
+pub fn name_at(names: &[u8; 32], n: usize) -> u8
+    requires { ⌜ length (now names) ≡ 32 ⌝ }
+    ensures { λ r. ⌜ r ≡ getD (now (names .entry)) n 0 ⌝ }
+{
+    if n < 32 {
+        return names[n];
+    }
+    0
+}
+
+// The location of a read or a write, from the name of its address register.
+pub fn location(c: Case, acts: [Entry; 48], issued: usize, i: Instr, first: u8) -> u8
+    requires { ⌜ (issued ≤ 48) × (length acts ≡ 48) ⌝ }
+    ensures { λ r. ⌜ ((s : State) → Acts c issued acts s → r ≡ cond (accesses (kind i)) (orZero (valueOf s (nameOf c first)) % 256) 0) ⌝ }
+{
+    let k = rules::kind_of(i);
+    if (k == 1) | (k == 2) {
+        let x = machine::or_zero(machine::named(c, acts, issued, first));
+        return (x % 256) as u8;
+    }
+    0
+}
+
+// A new entry of instruction i of processor p, its registers bound and its location fixed.
+pub fn new_entry(
+    c: Case,
+    names: &[u8; 32],
+    acts: [Entry; 48],
+    issued: usize,
+    p: usize,
+    place: u8,
+    i: Instr,
+) -> Entry
+    requires { ⌜ (issued ≤ 48) × (length acts ≡ 48) × (length (now names) ≡ 32) × (p < 4) × Fine i ⌝ }
+    ensures { λ r. ⌜ ((s : State) → Acts c issued acts s → s .names ≡ namesOf c (now (names .entry)) → shownEntry c r ≡ fresh s p place i) ⌝ }
+{
+    let a = words::wide(first_read(i));
+    let b = words::wide(second_read(i));
+    let first = name_at(names, 8 * p + a);
+    let second = name_at(names, 8 * p + b);
+    let loc = location(c, acts, issued, i, first);
+    Entry {
+        instr: i,
+        proc: (p % 256) as u8,
+        place,
+        first,
+        second,
+        loc,
+        done: false,
+        result: 0,
+    }
+}
+
+// Codes 24 and 25 of an instruction whose address register holds v.
+pub fn address_code(i: Instr, v: Value, locs: u8) -> u8
+    ensures { λ r. ⌜ r ≡ firstOf (24 when (accesses (kind i) && isNone (shownValue v)) ∷ 25 when (accesses (kind i) && leb locs (orZero (shownValue v))) ∷ []) ⌝ }
+{
+    let k = rules::kind_of(i);
+    if (k == 1) | (k == 2) {
+        if !v.known {
+            return 24;
+        }
+        if locs as u16 <= v.value {
+            return 25;
+        }
+    }
+    0
+}
+
+// The code that an issue of processor p gets.
+pub fn issue_code<'a>(
+    c: Case,
+    places: &'a [u8; 4],
+    names: &'a [u8; 32],
+    acts: [Entry; 48],
+    issued: usize,
+    p: usize,
+) -> u8
+    requires { ⌜ Fit c × (issued ≤ 48) × (length acts ≡ 48) × (length (now names) ≡ 32) × (p < 4) ⌝ }
+    ensures { λ r. ⌜ ((s : State) → Acts c issued acts s → s .places p ≡ placeOf (getD (now (places .entry)) p 0) → s .names ≡ namesOf c (now (names .entry)) → r ≡ firstOf (issueRefusals c s p)) ⌝ }
+{
+    let place = places[p];
+    if place == 255 {
+        return 21;
+    }
+    if c.counts[p] <= place {
+        return 22;
+    }
+    if 48 <= issued {
+        return 23;
+    }
+    let s = c.code[12 * p + words::wide(place)];
+    let i = s.instr;
+    let a = words::wide(first_read(i));
+    let v = machine::named(c, acts, issued, name_at(names, 8 * p + a));
+    address_code(i, v, c.locs)
+}
+
+// Enters e, of processor p, as the next action.
+pub fn enter(c: Case, m: Machine, p: usize, e: Entry) -> Machine
+    requires { ⌜ Valid c m × (p < 4) × (m .issued < 48) × ValidEntry e ⌝ }
+    ensures { λ r. ⌜ Entered c m p e r ⌝ }
+{
+    let k = m.issued;
+    let acts = m.acts;
+    let i = e.instr;
+    let place = place_after(i, e.place);
+    let d = words::wide(assigned(i));
+    let mut n = m;
+    join_orders(&mut n.rows, acts, k, p, e, c.locs);
+    n.acts[k] = e;
+    n.issued = k + 1;
+    n.places[p] = place;
+    if d < 8 {
+        n.names[8 * p + d] = ((32 + k) % 256) as u8;
+    }
+    n
+}
+
+// The machine after an issue of processor p that nothing refuses.
+pub fn issue(c: Case, m: Machine, p: usize) -> Machine
+    requires { ⌜ Valid c m × (stepCode c (shown c m) (issueStep p) ≡ 0) ⌝ }
+    ensures { λ r. ⌜ (shown c r ≡ issuedOf c (shown c m) p) × Valid c r ⌝ }
+{
+    let issued = m.issued;
+    let acts = m.acts;
+    let place = m.places[p];
+    let s = c.code[12 * p + words::wide(place)];
+    let i = s.instr;
+    let e = new_entry(c, &m.names, acts, issued, p, place, i);
+    enter(c, m, p, e)
+}

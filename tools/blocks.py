@@ -1,0 +1,134 @@
+#!/usr/bin/env python3
+"""Writes the blocks that the program `blocks` is run on, and what it must print: one good block and damaged ones.
+
+    python3 tools/blocks.py crates/blocks
+
+It writes below that folder data/NAME for each block, args (the names) and stdout (a line for each). It follows
+document 01, "The case block" and "Codes", and nothing of the code, so the two can be held against each other.
+"""
+import pathlib
+import sys
+
+
+def put(block, at, value):
+    """A two-byte number, low byte first."""
+    block[at] = value % 256
+    block[at + 1] = value // 256
+
+
+def signed(block):
+    """The block with the check that its bytes 0 to 509 ask for."""
+    put(block, 510, sum((i + 1) * block[i] for i in range(510)) % 65521)
+    return block
+
+
+def instruction(block, processor, number, op, d=0, a=0, b=0, constant=0):
+    at = 92 + 72 * processor + 6 * number
+    block[at : at + 4] = bytes([op, d, a, b])
+    put(block, at + 4, constant)
+
+
+def shape_h():
+    """Processor 0 writes 1 to x, then 1 to y; processor 1 reads y into register 2, then x into register 3."""
+    block = bytearray(512)
+    block[0], block[1], block[2] = 2, 2, 8
+    for processor in range(2):
+        block[4 + processor] = 2
+        block[8 + processor] = 0b11
+        put(block, 12 + 16 * processor + 2 * 1, 1)
+    instruction(block, 0, 0, 2, a=0, b=1)
+    instruction(block, 0, 1, 2, a=1, b=1)
+    instruction(block, 1, 0, 1, d=2, a=1)
+    instruction(block, 1, 1, 1, d=3, a=0)
+    return block
+
+
+def changed(*stores):
+    """H with bytes changed, and the check made right again."""
+    block = shape_h()
+    for at, value in stores:
+        block[at] = value
+    return signed(block)
+
+
+def every_kind():
+    """All ten ops, the largest sizes and the highest legal values."""
+    block = bytearray(512)
+    block[0], block[1], block[2] = 4, 8, 96
+    for processor in range(4):
+        block[8 + processor] = 255
+        for register in range(8):
+            put(block, 12 + 16 * processor + 2 * register, 65535 - 257 * register)
+    for location in range(8):
+        put(block, 76 + 2 * location, 513 * location)
+    program = [
+        dict(op=1, d=7, a=6),
+        dict(op=2, a=7, b=5),
+        dict(op=3, d=4, constant=65534),
+        dict(op=4, d=1, a=2, b=3),
+        dict(op=5, d=3, a=2, b=1),
+        dict(op=6, d=7, a=7, b=7),
+        dict(op=7, a=7, constant=12),
+        dict(op=8, constant=0),
+        dict(op=9, a=1),
+        dict(op=10, a=7),
+        dict(op=3, d=0, constant=255),
+        dict(op=8, constant=12),
+    ]
+    for processor in range(4):
+        block[4 + processor] = 12
+        for number, fields in enumerate(program):
+            instruction(block, processor, number, **fields)
+    return signed(block)
+
+
+H = signed(shape_h())
+SPARE = 92 + 72 * 3  # the first slot of an absent processor
+FIRST = 92  # the first slot of processor 0
+
+BLOCKS = [
+    ("h", H, 0),
+    ("every-kind", every_kind(), 0),
+    ("empty", b"", 1),
+    ("short", H[:511], 1),
+    ("long", H + b"\0", 1),
+    ("check", H[:511] + bytes([H[511] ^ 1]), 2),
+    ("no-processor", changed((0, 0)), 3),
+    ("five-processors", changed((0, 5)), 3),
+    ("nine-locations", changed((1, 9)), 3),
+    ("bound-97", changed((2, 97)), 3),
+    ("byte-3", changed((3, 1)), 3),
+    ("count-13", changed((4, 13)), 4),
+    ("count-absent", changed((6, 1)), 4),
+    ("mask-absent", changed((10, 1)), 5),
+    ("preset-unset", changed((12 + 2 * 2, 1)), 5),
+    ("preset-absent", changed((12 + 16 * 2 + 1, 1)), 5),
+    ("word-absent", changed((76 + 2 * 2, 1)), 5),
+    ("op-0", changed((FIRST, 0)), 6),
+    ("op-11", changed((FIRST, 11)), 6),
+    ("register-8", changed((FIRST + 2, 8)), 6),
+    ("label-past", changed((FIRST, 8), (FIRST + 2, 0), (FIRST + 3, 0), (FIRST + 4, 3)), 6),
+    ("label-high", changed((FIRST, 8), (FIRST + 2, 0), (FIRST + 3, 0), (FIRST + 5, 1)), 6),
+    ("field-unused", changed((FIRST + 1, 1)), 6),
+    ("slot-unused", changed((FIRST + 6 * 2, 1)), 7),
+    ("slot-absent", changed((SPARE + 5, 1)), 7),
+    ("byte-381", changed((381, 1)), 7),
+    ("byte-509", changed((509, 1)), 7),
+    ("bad-for-5-6-7", changed((500, 1), (FIRST, 11), (11, 1)), 5),
+    ("bad-for-3-to-7", changed((500, 1), (FIRST, 11), (11, 1), (7, 1), (2, 97)), 3),
+    ("bad-for-all", (lambda b: b[:510] + bytes([b[510] ^ 1]) + b[511:] + b"\0")(changed((500, 1), (3, 1))), 1),
+]
+
+
+def main():
+    crate = pathlib.Path(sys.argv[1])
+    (crate / "data").mkdir(exist_ok=True)
+    lines = []
+    for name, block, code in BLOCKS:
+        (crate / "data" / name).write_bytes(bytes(block))
+        lines.append(f"{name} code {code}" + (", written again the same" if code == 0 else ""))
+    (crate / "args").write_text("".join(name + "\n" for name, _, _ in BLOCKS))
+    (crate / "stdout").write_text("".join(line + "\n" for line in lines))
+
+
+main()
