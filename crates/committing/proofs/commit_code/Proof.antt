@@ -1,0 +1,50 @@
+use mathlib.Core.Path.{_∙_, sym, ap}
+use mathlib.Core.Bool.{not}
+use native.Mathlib.Omega.{arith}
+use lib.ListN.{getD}
+use Rattle.machine.specs.Shown.{blankEntry, shownEntry}
+use Rattle.machine.proofs.Entries.{action-at}
+use Rattle.committing.proofs.Refusing.{commit-unissued, commit-gone, commit-rest}
+use borrow.Author.Needs.{needs}
+use Rattle.committing.proofs.commit_code.Statement.{statement}
+use Rattle.committing.proofs.commit_code.Tie as tie
+
+returns : tie.Need-returns
+returns c = let a = c .before .args in λ s h o l. commit-unissued (a .c) s (a .p) (a .k) (a .src) (omega (arith, h .count, c .if1 .taken))
+
+mul-e : tie.Need-mul-e
+mul-e c = search needs
+
+array-copy-out-e : tie.Need-array-copy-out-e
+array-copy-out-e c = search needs
+
+queued-requires : tie.Need-queued-requires
+queued-requires c κs = search needs
+
+returns-2 : tie.Need-returns-2
+returns-2 c =
+    let a = c .before .before .before .before .args in
+    λ s h o l. commit-gone (a .c) s (a .p) (a .k) (a .src) (shownEntry (a .c) (getD (a .t2) (a .k) blankEntry)) (action-at (a .c) (a .issued) (a .t2) s h (a .k) (c .before .before .before .if1 .left)) (omega (arith, h .count, c .before .before .before .if1 .left)) (ap not (sym (c .before .queued .ensures (a .c))) ∙ c .if2 .taken)
+
+rest-code-requires : tie.Need-rest-code-requires
+rest-code-requires c κs =
+    let b = c .before .before .before .before in
+    (b .pre .0, b .pre .1, b .pre .2, b .pre .3, c .before .before .before .if1 .left, b .pre .4 (b .args .k) (c .before .before .before .if1 .left) .loc)
+
+returns-3 : tie.Need-returns-3
+returns-3 c =
+    let a = c .before .before .before .before .before .args in
+    λ s h o l. c .rest-code .ensures s h o l
+    ∙ commit-rest (a .c) s (a .p) (a .k) (a .src) (shownEntry (a .c) (getD (a .t2) (a .k) blankEntry)) (action-at (a .c) (a .issued) (a .t2) s h (a .k) (c .before .before .before .before .if1 .left)) (omega (arith, h .count, c .before .before .before .before .if1 .left)) (ap not (sym (c .before .before .queued .ensures (a .c))) ∙ c .before .if2 .left)
+
+pub commit-code-spec : {M : Type 1} → statement M
+commit-code-spec =
+    tie.close
+    (tie.spec
+    returns
+    mul-e
+    array-copy-out-e
+    queued-requires
+    returns-2
+    rest-code-requires
+    returns-3)

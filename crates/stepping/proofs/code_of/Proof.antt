@@ -1,0 +1,82 @@
+use mathlib.Core.Path.{_∙_, ap, refl}
+use Prim.Native.Nat.{ℕ}
+use native.Mathlib.Omega.{arith}
+use Rattle.rules.specs.Step.{issue, commit, stepCode}
+use Rattle.machine.specs.Shown.{shown}
+use Rattle.stepping.proofs.Bytes.{step-issue, step-commit, step-kind, step-action, step-source, code-neither, code-issue, code-commit, code-absent, one}
+use borrow.Author.Needs.{needs}
+use Rattle.stepping.proofs.code_of.Statement.{statement}
+use Rattle.stepping.proofs.code_of.Tie as tie
+
+returns : tie.Need-returns
+returns c = let a = c .before .args in code-neither (a .c) (shown (a .c) (a .t2)) _ (step-kind (a .kind) (a .proc) (a .action) (a .source) (c .if1 .taken))
+
+returns-2 : tie.Need-returns-2
+returns-2 c = let a = c .before .before .before .args in code-absent (a .c) (shown (a .c) (a .t2)) (a .kind) (a .proc) (a .action) (a .source) (c .if2 .taken)
+
+wide-requires : tie.Need-wide-requires
+wide-requires c κs = search needs
+
+returns-3 : tie.Need-returns-3
+returns-3 c = let a = c .before .before .before .before .before .before .before .args in code-neither (a .c) (shown (a .c) (a .t2)) _ (step-action (a .kind) (a .proc) (a .action) (a .source) (c .before .if3 .taken) (c .if4 .taken))
+
+returns-4 : tie.Need-returns-4
+returns-4 c = let a = c .before .before .before .before .before .before .before .before .args in code-neither (a .c) (shown (a .c) (a .t2)) _ (step-source (a .kind) (a .proc) (a .action) (a .source) (c .before .before .if3 .taken) (c .if5 .taken))
+
+issue-code-requires : tie.Need-issue-code-requires
+issue-code-requires c κs =
+    let b = c .before .before .before .before .before .before .before .before .before .before .before in
+    let v = b .pre in
+    (v .fit, v .issued, v .acts-long, v .names-long, omega (arith, v .fit .procs, c .before .before .before .before .before .before .before .before .if2 .left, c .before .before .before .before .before .before .before .wide .ensures .0))
+
+returns-5 : tie.Need-returns-5
+returns-5 c =
+    let b = c .before .before .before .before .before .before .before .before .before .before .before .before in
+    let a = b .args in
+    let s = shown (a .c) (a .t2) in
+    let w = c .before .before .before .before .before .before .before .before .wide .ensures .0 in
+    c .issue-code .ensures s (record { count = refl; actions = refl }) refl refl
+    ∙ code-issue (a .c) s (c .before .before .before .before .before .before .before .before .wide .result) (omega (arith, w, c .before .before .before .before .before .before .before .before .before .if2 .left))
+    ∙ ap (λ (p : ℕ). stepCode (a .c) s (issue p)) w
+    ∙ ap (stepCode (a .c) s) (step-issue (a .kind) (a .proc) (a .action) (a .source) (c .before .before .before .before .before .before .if3 .taken) (c .before .before .before .before .before .if4 .left) (c .before .before .before .before .if5 .left))
+
+wide-requires-2 : tie.Need-wide-requires-2
+wide-requires-2 c κs = search needs
+
+wide-requires-3 : tie.Need-wide-requires-3
+wide-requires-3 c κs = search needs
+
+commit-code-requires : tie.Need-commit-code-requires
+commit-code-requires c κs =
+    let b = c .before .before .before .before .before .before .before .before .before .before .before in
+    let v = b .pre in
+    (v .issued, v .acts-long, v .holders-long, omega (arith, v .fit .procs, c .before .before .before .before .before .before .before .before .if2 .left, c .before .before .before .before .before .before .before .wide .ensures .0), v .entries)
+
+returns-6 : tie.Need-returns-6
+returns-6 c =
+    let b = c .before .before .before .before .before .before .before .before .before .before .before .before in
+    let a = b .args in
+    let s = shown (a .c) (a .t2) in
+    let w = c .before .before .before .before .before .before .before .before .wide .ensures .0 in
+    let y = c .before .before .before .before .before .wide2 .ensures .0 in
+    let z = c .before .before .before .before .wide3 .ensures .0 in
+    c .commit-code .ensures s (record { count = refl; actions = refl }) refl refl
+    ∙ code-commit (a .c) s (c .before .before .before .before .before .before .before .before .wide .result) (c .before .before .before .before .before .wide2 .result) (c .before .before .before .before .wide3 .result) (omega (arith, w, c .before .before .before .before .before .before .before .before .before .if2 .left))
+    ∙ (λ j. stepCode (a .c) s (commit (w j) (y j) (z j)))
+    ∙ ap (stepCode (a .c) s) (step-commit (a .kind) (a .proc) (a .action) (a .source) (one (a .kind) (c .before .before .before .before .before .before .before .before .before .before .before .if1 .left) (c .before .before .before .before .before .before .if3 .left)))
+
+pub code-of-spec : {M : Type 1} → statement M
+code-of-spec =
+    tie.close
+    (tie.spec
+    returns
+    returns-2
+    wide-requires
+    returns-3
+    returns-4
+    issue-code-requires
+    returns-5
+    wide-requires-2
+    wide-requires-3
+    commit-code-requires
+    returns-6)

@@ -1,0 +1,71 @@
+// A step, from its four bytes: the code that it gets, and the machine after it.
+use cases::Case;
+use machine::Machine;
+ghost use mathlib.Core.Path.{_≡_};
+ghost use Prim.Native.Nat.{_<_};
+ghost use Rattle.rules.specs.Step.{stepOf, stepCode, after};
+ghost use Rattle.machine.specs.Shown.{shown};
+ghost use Rattle.machine.specs.Valid.{Valid};
+ghost use Rattle.stepping.specs.Taken.{Taken};
+
+pub struct Stepped {
+    pub code: u8,
+    pub machine: Machine,
+}
+
+// The code that a step gets.
+pub fn code_of(c: Case, m: Machine, kind: u8, proc: u8, action: u8, source: u8) -> u8
+    requires { ⌜ Valid c m ⌝ }
+    ensures { λ r. ⌜ r ≡ stepCode c (shown c m) (stepOf kind proc action source) ⌝ }
+{
+    if 1 < kind {
+        return 20;
+    }
+    if c.procs <= proc {
+        return 20;
+    }
+    let p = words::wide(proc);
+    let acts = m.acts;
+    let issued = m.issued;
+    if kind == 0 {
+        if action != 0 {
+            return 20;
+        }
+        if source != 0 {
+            return 20;
+        }
+        return issuing::issue_code(c, &m.places, &m.names, acts, issued, p);
+    }
+    let k = words::wide(action);
+    let e = words::wide(source);
+    committing::commit_code(c, acts, &m.rows, &m.holders, issued, p, k, e)
+}
+
+// The machine after a step that nothing refuses.
+pub fn taken(c: Case, m: Machine, kind: u8, proc: u8, action: u8, source: u8) -> Machine
+    requires { ⌜ Valid c m × (stepCode c (shown c m) (stepOf kind proc action source) ≡ 0) ⌝ }
+    ensures { λ r. ⌜ (shown c r ≡ after c (shown c m) (stepOf kind proc action source)) × Valid c r ⌝ }
+{
+    let p = words::wide(proc);
+    if kind == 0 {
+        return issuing::issue(c, m, p);
+    }
+    let k = words::wide(action);
+    let e = words::wide(source);
+    committing::commit(c, m, p, k, e)
+}
+
+// One step.
+pub fn step(c: Case, m: Machine, kind: u8, proc: u8, action: u8, source: u8) -> Stepped
+    requires { ⌜ Valid c m ⌝ }
+    ensures { λ r. ⌜ Taken c m (stepOf kind proc action source) r ⌝ }
+{
+    let code = code_of(c, m, kind, proc, action, source);
+    if code != 0 {
+        return Stepped { code, machine: m };
+    }
+    Stepped {
+        code: 0,
+        machine: taken(c, m, kind, proc, action, source),
+    }
+}
