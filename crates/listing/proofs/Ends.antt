@@ -1,4 +1,4 @@
--- The ends of a search, and a sure step: what each makes of the buffer and the tally. Assumes nothing.
+-- The ends of a search, what each makes of the buffer and the tally; and when a sure step is enough. Assumes nothing.
 use mathlib.Core.Path.{_≡_, refl, sym, _∙_, ap, subst}
 use mathlib.Core.Logic.{_⊎_, inl, inr, ⊎-elim}
 use mathlib.Core.Bool.{Bool, true, false}
@@ -8,12 +8,11 @@ use Rattle.cases.specs.declared.Case.{Case}
 use Rattle.rules.specs.State.{State}
 use Rattle.rules.specs.Step.{Step, stepCode, after}
 use Rattle.rules.specs.Result.{finished, registers}
-use Rattle.sure.specs.Spent.{Spent, asleep}
+use Rattle.sure.specs.Spent.{Spent}
 use Rattle.sure.specs.Sure.{Sized, sure}
 use Rattle.sure.proofs.Reduce.{Done}
-use Rattle.sure.proofs.Spent.{Rested}
-use Rattle.sure.proofs.Search.{Known, Calm}
-use Rattle.sure.proofs.Sweep.{Question, outcome, cut, Told, told-end, told-bound, told-alone, told-dead}
+use Rattle.sure.proofs.Search.{Known}
+use Rattle.sure.proofs.Sweep.{Question, outcome, cut, Told, Tested, Sweep, runs, told-end, told-bound}
 use Rattle.records.specs.Buffer.{Among, Held}
 use Rattle.records.specs.Growth.{Filled, Joined, Grown}
 use Rattle.records.specs.Insertion.{Insertion}
@@ -65,16 +64,7 @@ module _ (c : Case) (s : State) (sp : Spent) where
             (told-bound c s sp (Tells before y) (Holds before (y .count) true) (marks before (y .count) (y .cut)) f (marked before (y .count) (y .cut)) refl);
       }
 
-module _ (c : Case) (Z : Sized c) (s : State) (sp : Spent) (K : Known c s) (n : ℕ) (t : Step) (h : stepCode c s t ≡ 0) (p : sure c (suc n) s t ≡ true) where
-  -- a sure step that is spent: nothing is added
-  pub searched-dead : asleep sp t ≡ true → {before : List ℕ} {y : Tally} → y .full ≡ false → Held before (y .count) → Searched c sp s (suc n) before y before y
-  searched-dead e z held = record { filled = filled-none z held; told = λ _. told-dead c Z s sp K n t h p e }
-
-  -- a sure step alone
-  pub searched-alone : Rested c s sp → (z : Spent) → Calm s t sp z → {before : List ℕ} {y : Tally} {bytes : List ℕ} {x : Tally} →
-      Searched c z (after c s t) n before y bytes x → Searched c sp s (suc n) before y bytes x
-  searched-alone R z N W =
-      record {
-        filled = filled-of (λ q. in-second (λ d. Done.later t h d)) (W .filled);
-        told = λ e. told-alone c Z s sp K n t h p R z N (W .told e);
-      }
+-- a sure step, done with, is enough
+pub told-sure : (c : Case) (Z : Sized c) (s : State) (sp : Spent) (K : Known c s) (n : ℕ) {now : Spent} {B X : Question → Type 0} → Sweep c sp s n now B X → (t : Step) → stepCode c s t ≡ 0 → sure c (suc n) s t ≡ true
+    → Tested c sp s n X t → Told c sp s (suc n) B X
+told-sure c Z s sp K n S t h p T = record { kept = S .kept; sound = S .sound; full = λ q d. T q (runs c Z q .alone s t n (K .reached) h p d) }

@@ -3,9 +3,9 @@ use mathlib.Core.Path.{_≡_, refl, sym, _∙_, ap, subst, fun-ext}
 use mathlib.Core.Logic.{_↔_}
 use mathlib.Core.Bool.{Bool, true, false, false≢true, _&&_, _||_}
 use mathlib.Core.List.{List, List·Memᴰ·not-nil}
-use Prim.Native.Nat.{ℕ, zero, suc}
+use Prim.Native.Nat.{ℕ, zero, suc, _≤_}
 use lib.Dec.{eqb, ltb}
-use lib.ListN.{replicate, getD}
+use lib.ListN.{length, replicate, getD}
 use Rattle.words.specs.Sets.{has}
 use Rattle.words.proofs.Sets.{has-zero}
 use Rattle.words.proofs.Bools.{or-false, and-right}
@@ -16,7 +16,8 @@ use Rattle.rules.specs.State.{State, initial}
 use Rattle.rules.specs.Womm.{womm}
 use Rattle.rules.proofs.Listing.{listing-exists}
 use Rattle.sure.specs.Spent.{Key, taking, issuing, Spent, fresh}
-use Rattle.sure.specs.Sure.{Sized}
+use Rattle.sure.specs.Sure.{Sized, forward}
+use Rattle.sure.proofs.Search.{Known, known-initial}
 use Rattle.sure.proofs.Reduce.{Done, done-from}
 use Rattle.sure.proofs.Spent.{Rested}
 use Rattle.sure.proofs.Sweep.{Question, outcome, cut, Told, told-outcomes, told-cut}
@@ -24,9 +25,14 @@ use Rattle.records.specs.Buffer.{recordsIn}
 use Rattle.records.specs.Growth.{Filled, Joined}
 use Rattle.records.proofs.Growth.{in-second, filled-of}
 use Rattle.records.proofs.Closing.{listed, unlisted, filled-size, filled-more}
+use Rattle.records.proofs.Buffer.{held-zeros}
+use Rattle.machine.specs.declared.Machine.{Machine}
 use Rattle.machine.specs.Fit.{Fit}
+use Rattle.machine.specs.Shown.{shown}
+use Rattle.machine.specs.Valid.{Valid}
 use Rattle.choices.specs.Words.{spentBy}
 use Rattle.listing.specs.declared.Tally.{Tally}
+use Rattle.listing.specs.Ready.{Ready}
 use Rattle.listing.specs.Searched.{Tells, Searched}
 
 pub sized : (c : Case) → Fit c → Sized c
@@ -57,6 +63,24 @@ rested-none c s a h = absurd (false≢true (sym (ap (λ (sp : Spent). sp a) spen
 abbrev pub empty : Tally
 empty = record { count = 0; cut = false; full = false }
 
+-- what the search is given
+pub ready-start : {c : Case} {m : Machine} {n : ℕ} {ahead : Bool} (size : ℕ) {zeros : List ℕ} → shown c m ≡ initial c → Valid c m → ahead ≡ forward c → n ≤ 96 → zeros ≡ replicate size 0 → Ready c m n ahead (replicate 50 0) zeros empty
+ready-start {c} {m} size {zeros} shows valid forwards few cleared =
+    record {
+      valid = valid;
+      known = subst (Known c) (sym shows) (known-initial c);
+      forwards = forwards;
+      few = few;
+      long = refl;
+      rested = rested-none c (shown c m);
+      room = refl;
+      held = held-zeros size zeros cleared;
+    }
+
+-- the machine's start is that of the rules
+pub from-start : {c : Case} {s : State} {sp : Spent} {n : ℕ} {before bytes : List ℕ} {y z : Tally} → s ≡ initial c → Searched c sp s n before y bytes z → Searched c sp (initial c) n before y bytes z
+from-start {c} {s} {sp} {n} {before} {bytes} {y} {z} e = subst (λ (s : State). Searched c sp s n before y bytes z) e
+
 -- a search from the start over a cleared buffer
 module _ (c : Case) (Z : Sized c) (n size : ℕ) {zeros : List ℕ} (cleared : zeros ≡ replicate size 0) {bytes : List ℕ} {z : Tally}
     (W : Searched c (spentBy (replicate 50 0)) (initial c) n zeros empty bytes z) where
@@ -71,12 +95,15 @@ module _ (c : Case) (Z : Sized c) (n size : ℕ) {zeros : List ℕ} (cleared : z
   told : z .full ≡ false → Told c fresh (initial c) n (Tells zeros empty) (Tells bytes z)
   told e = subst (λ (sp : Spent). Told c sp (initial c) n (Tells zeros empty) (Tells bytes z)) spent-none (W .told e)
 
+  whole-size : length bytes ≡ size
+  whole-size = filled-size size cleared filled
+
   -- there was room
   pub whole-listed : z .full ≡ false → {a : Listed} → a .code ≡ 0 → a .count ≡ z .count → a .cut ≡ z .cut → IsListing (womm c) n size a bytes
   whole-listed e {a} code count mark =
-      listed (filled-size size cleared filled) (W .filled .held e) (told-outcomes c Z n (Tells zeros empty) (Tells bytes z) nothing (told e)) code count
+      listed whole-size (W .filled .held e) (told-outcomes c Z n (Tells zeros empty) (Tells bytes z) nothing (told e)) code count
       (subst (λ (b : Bool). (b ≡ true) ↔ Cut (womm c) n) (sym mark) (told-cut c Z n (Tells zeros empty) (Tells bytes z) nothing (told e)))
 
   -- there was none, and the buffer is cleared again
-  pub whole-unlisted : z .full ≡ true → {a : Listed} {out : List ℕ} → Refused 11 size a out → IsListing (womm c) n size a out
-  whole-unlisted e refused = let x = listing-exists c n size in unlisted (x .2 .right) (filled-more size cleared filled e) refused
+  pub whole-unlisted : z .full ≡ true → {a : Listed} {out : List ℕ} → Refused 11 (length bytes) a out → IsListing (womm c) n size a out
+  whole-unlisted e {a} {out} refused = let x = listing-exists c n size in unlisted (x .2 .right) (filled-more size cleared filled e) (subst (λ (k : ℕ). Refused 11 k a out) whole-size refused)
