@@ -115,30 +115,35 @@ unissued-kind c n acts k h e = let q : actionsOf c n acts k ≡ unissued = rw (l
 
 -- the key of a position
 
-pub key-taken : (j : ℕ) → j / 64 < 49 → (f : ℕ) × (keyAt j ≡ taking (cond (ltb (j / 64) 48) (j / 64) (j % 64)) f)
+-- the action that it commits, and the item that it names
+abbrev pub actionAt : ℕ → ℕ
+actionAt j = cond (ltb (j / 64) 48) (j / 64) (j % 64)
+
+abbrev pub sourceAt : ℕ → ℕ
+sourceAt j = cond (ltb (j / 64) 48) (j % 64) 0
+
+pub key-taken : (j : ℕ) → j / 64 < 49 → keyAt j ≡ taking (actionAt j) (sourceAt j)
 key-taken j h =
     elim (decLt (j / 64) 48) [
-      | yes l ↦ (j % 64, rw (lt-ltb (j / 64) 48 l))
-      | no l ↦ (0, rw (le-ltb (j / 64) 48 (omega arith), eq-eqb (j / 64) 48 (omega arith)))
+      | yes l ↦ rw (lt-ltb (j / 64) 48 l)
+      | no l ↦ rw (le-ltb (j / 64) 48 (omega arith), eq-eqb (j / 64) 48 (omega arith))
     ]
 
 module _ (s : State) (now : List ℕ) (long : length now ≡ 50) where
   -- the commit of an action that is no acquire wakes nothing
-  pub rest-none : (j k : ℕ) → j / 64 < 49 → k ≡ cond (ltb (j / 64) 48) (j / 64) (j % 64) → (kindOf (s .actions k) ≡ 6 → ⊥) → RestedBy s (stepBy s (keyAt j)) now now
+  pub rest-none : (j k : ℕ) → j / 64 < 49 → k ≡ actionAt j → (kindOf (s .actions k) ≡ 6 → ⊥) → RestedBy s (stepBy s (keyAt j)) now now
   rest-none j k h q n =
-      let t = key-taken j h in
-      subst (λ (a : Key). RestedBy s (stepBy s a) now now) (sym (t .1)) (record { long = long; calm = λ a x. (x, calm (t .0) a) })
+      subst (λ (a : Key). RestedBy s (stepBy s a) now now) (sym (key-taken j h)) (record { long = long; calm = λ a x. (x, calm (sourceAt j) a) })
     where
-      calm : (f : ℕ) (a : Key) → wakes s (stepBy s (taking (cond (ltb (j / 64) 48) (j / 64) (j % 64)) f)) a ≡ false
+      calm : (f : ℕ) (a : Key) → wakes s (stepBy s (taking (actionAt j) f)) a ≡ false
       calm f (taking i x) = rw (sym q) (sym (rivals-first s (s .actions k) (s .actions i) (kindOf (s .actions k)) refl n))
       calm f (issuing p) = refl
 
   -- an acquire wakes the acquires of its location
-  pub rest-acquire : (c : Case) (acts : List Entry) (e : Entry) (gone : ℕ) (less : List ℕ) (j k : ℕ) → Acts c (s .count) acts s → j / 64 < 49 → k ≡ cond (ltb (j / 64) 48) (j / 64) (j % 64) → s .actions k ≡ shownEntry c e → SetOf (s .count) (λ i. rivals s (shownEntry c e) (s .actions i)) gone → Cleared now gone 48 less → RestedBy s (stepBy s (keyAt j)) now less
+  pub rest-acquire : (c : Case) (acts : List Entry) (e : Entry) (gone : ℕ) (less : List ℕ) (j k : ℕ) → Acts c (s .count) acts s → j / 64 < 49 → k ≡ actionAt j → s .actions k ≡ shownEntry c e → SetOf (s .count) (λ i. rivals s (shownEntry c e) (s .actions i)) gone → Cleared now gone 48 less → RestedBy s (stepBy s (keyAt j)) now less
   unfolding spentBy
   rest-acquire c acts e gone less j k A h q z set C =
-      let t = key-taken j h in
-      subst (λ (a : Key). RestedBy s (stepBy s a) now less) (sym (t .1)) (record { long = C .long; calm = λ a x. calm (t .0) a x })
+      subst (λ (a : Key). RestedBy s (stepBy s a) now less) (sym (key-taken j h)) (record { long = C .long; calm = calm (sourceAt j) })
     where
       apart : (i : ℕ) → has gone i ≡ false → rivals s (s .actions k) (s .actions i) ≡ false
       apart i g =
@@ -147,7 +152,7 @@ module _ (s : State) (now : List ℕ) (long : length now ≡ 50) where
             | no l ↦ sym (rivals-second s (s .actions k) (s .actions i) 0 (sym (ap kindOf (action-out c (s .count) acts s A i (omega arith)))) (λ b. omega arith))
           ]
 
-      calm : (f : ℕ) (a : Key) → spentBy less a ≡ true → (spentBy now a ≡ true) × (wakes s (stepBy s (taking (cond (ltb (j / 64) 48) (j / 64) (j % 64)) f)) a ≡ false)
+      calm : (f : ℕ) (a : Key) → spentBy less a ≡ true → (spentBy now a ≡ true) × (wakes s (stepBy s (taking (actionAt j) f)) a ≡ false)
       calm f (taking i x) y =
           rw (sym q) (⊎-elim
           (λ p.

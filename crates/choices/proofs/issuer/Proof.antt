@@ -1,42 +1,36 @@
+use borrow.Author.Needs.{needs}
+use native.Mathlib.Omega.{arith}
+use Prim.Native.Nat.{ℕ, _+_, _≤_, _<_, _-_, _*_, _/_, _%_}
+use mathlib.Core.Path.{_≡_, refl, _∙_, sym, ap, subst}
 use Rattle.choices.proofs.issuer.Statement.{statement}
 use Rattle.choices.proofs.issuer.Tie as tie
-use Rattle.choices.proofs.issuer.Reads as reads
-use Rattle.choices.proofs.issuer.Lts as lts
-use Rattle.choices.proofs.may_issue.Reads as may-issue-reads
 
 abbrev Inv-loop : tie.InvT-loop
-Inv-loop c places names acts issued p₀ p = ?
+Inv-loop c places names acts issued p₀ p = p ≤ 4
 
 abbrev μ-loop : tie.MeasureT-loop
-μ-loop c places names acts issued p₀ p = ?
+μ-loop c places names acts issued p₀ p = 4 - p
 
--- src/lib.rt:579:5
 loop-holds : tie.Need-loop-holds Inv-loop μ-loop
-loop-holds c = ?
+loop-holds c = search needs
 
--- src/lib.rt:580:12
 may-issue-requires : tie.Need-may-issue-requires Inv-loop μ-loop
-may-issue-requires c κs = ?
+may-issue-requires c κs = search needs
 
--- src/lib.rt:581:13
 returns : tie.Need-returns Inv-loop μ-loop
-returns c = ?
+returns c = λ s h p n l. sym (c .before .may-issue .ensures s h p n) ∙ c .if1 .taken
 
--- src/lib.rt:583:9
 add-p : tie.Need-add-p Inv-loop μ-loop
-add-p c = ?
+add-p c = search needs
 
--- src/lib.rt:579:5
 loop-less : tie.Need-loop-less Inv-loop μ-loop
-loop-less c = ?
+loop-less c = search needs
 
--- src/lib.rt:579:5
 loop-again : tie.Need-loop-again Inv-loop μ-loop
-loop-again c = ?
+loop-again c = search needs
 
--- src/lib.rt:568:1
 returns-2 : tie.Need-returns-2 Inv-loop μ-loop
-returns-2 c = ?
+returns-2 c = λ s h p n l. absurd (omega arith)
 
 pub issuer-spec : {M : Type 1} → statement M
 issuer-spec =

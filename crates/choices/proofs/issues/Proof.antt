@@ -1,43 +1,48 @@
+use borrow.Author.Needs.{needs}
+use Rattle.choices.proofs.Rests.{no-set}
+use Rattle.choices.specs.Words.{opens}
+use Rattle.machine.specs.Shown.{placeOf, namesOf, Acts}
+use Rattle.orders.specs.Rows.{SetOf}
+use Rattle.rules.specs.State.{State}
+use lib.ListN.{getD}
+use native.Mathlib.Omega.{arith}
+use Prim.Native.Nat.{ℕ, _+_, _≤_, _<_, _-_, _*_, _/_, _%_}
+use mathlib.Core.Path.{_≡_, refl, _∙_, sym, ap, subst}
 use Rattle.choices.proofs.issues.Statement.{statement}
 use Rattle.choices.proofs.issues.Tie as tie
-use Rattle.choices.proofs.issues.Reads as reads
-use Rattle.choices.proofs.issues.Lts as lts
-use Rattle.choices.proofs.may_issue.Reads as may-issue-reads
-use Rattle.orders.proofs.with.Reads as with-reads
 
 abbrev Inv-loop : tie.InvT-loop
-Inv-loop c places names acts issued items₀ p₀ items p = ?
+Inv-loop c places names acts issued items₀ p₀ items p = (p ≤ 4) × ((s : State) → Acts c issued acts s → s .places ≡ (λ q. placeOf (getD places q 0)) → s .names ≡ namesOf c names → SetOf p (opens c s 49) items)
 
 abbrev μ-loop : tie.MeasureT-loop
-μ-loop c places names acts issued items₀ p₀ items p = ?
+μ-loop c places names acts issued items₀ p₀ items p = 4 - p
 
--- src/lib.rt:446:5
 loop-holds : tie.Need-loop-holds Inv-loop μ-loop
-loop-holds c = ?
+loop-holds c = (search needs, λ s h o g. no-set (opens (c .args .c) s 49))
 
--- src/lib.rt:447:13
 may-issue-requires : tie.Need-may-issue-requires Inv-loop μ-loop
-may-issue-requires c κs = ?
+may-issue-requires c κs = search needs
 
--- src/lib.rt:448:9
 with-requires : tie.Need-with-requires Inv-loop μ-loop
-with-requires c κs = ?
+with-requires c κs = search needs
 
--- src/lib.rt:449:9
 add-p : tie.Need-add-p Inv-loop μ-loop
-add-p c = ?
+add-p c = search needs
 
--- src/lib.rt:446:5
 loop-less : tie.Need-loop-less Inv-loop μ-loop
-loop-less c = ?
+loop-less c = search needs
 
--- src/lib.rt:446:5
 loop-again : tie.Need-loop-again Inv-loop μ-loop
-loop-again c = ?
+loop-again c =
+    let at = c .before .before .before in
+    let a = at .before .args in
+    (search needs, λ s h o g. c .with .ensures (opens (a .c) s 49) (at .loop .inv .1 s h o g) (c .before .may-issue .ensures s h o g))
 
--- src/lib.rt:434:1
 returns : tie.Need-returns Inv-loop μ-loop
-returns c = ?
+returns c =
+    let a = c .before .before .args in
+    let q : c .before .loop .p ≡ 4 = omega arith in
+    λ s h o g. subst (λ (n : ℕ). SetOf n (opens (a .c) s 49) (c .before .loop .items)) q (c .before .loop .inv .1 s h o g)
 
 pub issues-spec : {M : Type 1} → statement M
 issues-spec =

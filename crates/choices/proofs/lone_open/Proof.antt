@@ -1,34 +1,34 @@
+use Rattle.choices.proofs.Opens.{lone-read, lone-other}
+use Rattle.machine.proofs.Entries.{action-at}
+use Rattle.rules.specs.State.{kindOf}
+use mathlib.Core.Path.{_≡_, refl, _∙_, sym, ap, subst}
 use borrow.Author.Needs.{needs}
 use Rattle.choices.proofs.lone_open.Statement.{statement}
 use Rattle.choices.proofs.lone_open.Tie as tie
-use Rattle.choices.proofs.lone_open.Reads as reads
-use Rattle.choices.proofs.lone_open.Lts as lts
-use Rattle.choices.proofs.may_commit.Reads as may-commit-reads
-use Rattle.rules.proofs.kind_of.Reads as kind-of-reads
 
--- src/lib.rt:386:13
 mul-e : tie.Need-mul-e
 mul-e c = search needs
 
--- src/lib.rt:386:13
 array-copy-out-e : tie.Need-array-copy-out-e
 array-copy-out-e c = search needs
 
--- src/lib.rt:388:8
 kind-of-requires : tie.Need-kind-of-requires
 kind-of-requires c κs = search needs
 
--- src/lib.rt:389:9
 returns : tie.Need-returns
-returns c = ?
+returns c =
+    let b = c .before .before .before in
+    let a = b .args in
+    λ s h o g. lone-read (a .c) s (a .k) (c .before .kind-of .result) (c .before .kind-of .ensures .0 ∙ sym (ap kindOf (action-at (a .c) (a .issued) (a .t4) s h (a .k) (b .pre .3)))) (c .if1 .taken)
 
--- src/lib.rt:391:5
 may-commit-requires : tie.Need-may-commit-requires
 may-commit-requires c κs = search needs
 
--- src/lib.rt:375:1
 returns-2 : tie.Need-returns-2
-returns-2 c = ?
+returns-2 c =
+    let b = c .before .before .before .before in
+    let a = b .args in
+    λ s h o g. lone-other (a .c) s (a .k) (c .before .before .kind-of .result) (c .may-commit .result) (c .before .before .kind-of .ensures .0 ∙ sym (ap kindOf (action-at (a .c) (a .issued) (a .t4) s h (a .k) (b .pre .3)))) (c .before .if1 .left) (c .may-commit .ensures s h o g)
 
 pub lone-open-spec : {M : Type 1} → statement M
 lone-open-spec =

@@ -1,38 +1,39 @@
+use Rattle.choices.proofs.Opens.{absent-commit, present-commit}
+use Rattle.machine.proofs.Entries.{action-at}
+use Rattle.rules.specs.State.{Action}
+use native.Mathlib.Omega.{arith}
+use Prim.Native.Nat.{ℕ, _+_, _≤_, _<_, _-_, _*_, _/_, _%_}
+use mathlib.Core.Path.{_≡_, refl, _∙_, sym, ap, subst}
 use borrow.Author.Needs.{needs}
 use Rattle.choices.proofs.may_commit.Statement.{statement}
 use Rattle.choices.proofs.may_commit.Tie as tie
-use Rattle.choices.proofs.may_commit.Reads as reads
-use Rattle.choices.proofs.may_commit.Lts as lts
-use Rattle.committing.proofs.commit_code.Reads as commit-code-reads
-use Rattle.words.proofs.wide.Reads as wide-reads
 
--- src/lib.rt:366:13
 mul-e : tie.Need-mul-e
 mul-e c = search needs
 
--- src/lib.rt:366:13
 array-copy-out-e : tie.Need-array-copy-out-e
 array-copy-out-e c = search needs
 
--- src/lib.rt:367:9
 wide-requires : tie.Need-wide-requires
 wide-requires c κs = search needs
 
--- src/lib.rt:368:8
 wide-requires-2 : tie.Need-wide-requires-2
 wide-requires-2 c κs = search needs
 
--- src/lib.rt:369:9
 returns : tie.Need-returns
-returns c = ?
+returns c =
+    let b = c .before .before .before .before in
+    let a = b .args in
+    λ s h o g. absent-commit (a .c) s (a .k) 0 (c .before .before .wide .result) (c .before .before .wide .ensures .0 ∙ sym (ap (λ (x : Action). x .proc) (action-at (a .c) (a .issued) (a .t4) s h (a .k) (b .pre .3)))) (omega (arith, c .if1 .taken, c .before .wide2 .ensures .0))
 
--- src/lib.rt:371:5
 commit-code-requires : tie.Need-commit-code-requires
 commit-code-requires c κs = search needs
 
--- src/lib.rt:355:1
 returns-2 : tie.Need-returns-2
-returns-2 c = ?
+returns-2 c =
+    let b = c .before .before .before .before .before in
+    let a = b .args in
+    λ s h o g. present-commit (a .c) s (a .k) 0 (c .before .before .before .wide .result) (c .commit-code .result) (c .before .before .before .wide .ensures .0 ∙ sym (ap (λ (x : Action). x .proc) (action-at (a .c) (a .issued) (a .t4) s h (a .k) (b .pre .3)))) (omega (arith, c .before .if1 .left, c .before .before .wide2 .ensures .0)) (c .commit-code .ensures s h o g)
 
 pub may-commit-spec : {M : Type 1} → statement M
 may-commit-spec =

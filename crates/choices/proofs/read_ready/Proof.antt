@@ -1,44 +1,53 @@
+use Rattle.choices.proofs.Opens.{ready-shut, ready-is}
+use Rattle.choices.specs.Opening.{queuedRead}
+use Rattle.committing.specs.Committed.{holding}
+use Rattle.machine.proofs.Entries.{action-at}
+use Rattle.machine.specs.Shown.{blankEntry}
+use Rattle.rules.specs.State.{Action, valueOf}
+use Rattle.words.specs.Small.{isNone, any, someBelow}
+use lib.ListN.{getD}
+use native.Mathlib.Omega.{arith}
+use Prim.Native.Nat.{ℕ, _+_, _≤_, _<_, _-_, _*_, _/_, _%_}
+use mathlib.Core.Path.{_≡_, refl, _∙_, sym, ap, subst}
 use borrow.Author.Needs.{needs}
 use Rattle.choices.proofs.read_ready.Statement.{statement}
 use Rattle.choices.proofs.read_ready.Tie as tie
-use Rattle.choices.proofs.read_ready.Reads as reads
-use Rattle.choices.proofs.read_ready.Lts as lts
-use Rattle.choices.proofs.read_queued.Reads as read-queued-reads
-use Rattle.committing.proofs.held.Reads as held-reads
-use Rattle.committing.proofs.unready.Reads as unready-reads
-use Rattle.words.proofs.wide.Reads as wide-reads
 
--- src/lib.rt:331:13
 mul-e : tie.Need-mul-e
 mul-e c = search needs
 
--- src/lib.rt:331:13
 array-copy-out-e : tie.Need-array-copy-out-e
 array-copy-out-e c = search needs
 
--- src/lib.rt:332:9
 read-queued-requires : tie.Need-read-queued-requires
 read-queued-requires c κs = search needs
 
--- src/lib.rt:333:9
 returns : tie.Need-returns
-returns c = ?
+returns c =
+    let b = c .before .before .before in
+    let a = b .args in
+    λ s h. ready-shut (a .c) s (a .k) (c .before .read-queued .result) (c .before .read-queued .ensures (a .c) ∙ ap (queuedRead (a .c .procs)) (sym (action-at (a .c) (a .issued) (a .t2) s h (a .k) (b .pre .2)))) (c .if1 .taken)
 
--- src/lib.rt:335:9
 wide-requires : tie.Need-wide-requires
 wide-requires c κs = search needs
 
--- src/lib.rt:336:9
 held-requires : tie.Need-held-requires
 held-requires c κs = search needs
 
--- src/lib.rt:337:9
 unready-requires : tie.Need-unready-requires
 unready-requires c κs = search needs
 
--- src/lib.rt:327:1
 returns-2 : tie.Need-returns-2
-returns-2 c = ?
+returns-2 c =
+    let b = c .before .before .before .before .before .before in
+    let a = b .args in
+    let r = c .before .before .before .before .read-queued in
+    let w = c .before .before .wide in
+    λ s h.
+    let z = sym (action-at (a .c) (a .issued) (a .t2) s h (a .k) (b .pre .2)) in
+    ready-is (a .c) s (a .k) (r .result) (r .ensures (a .c) ∙ ap (queuedRead (a .c .procs)) z) (c .before .held .result) (c .unready .result) (c .before .before .before .if1 .left)
+    (c .before .held .ensures (a .c) (a .issued) s h (omega (arith, b .pre .2)) ∙ ap (λ (p : ℕ). someBelow (a .k) (λ j. holding p 1 (getD (a .t2) (a .k) blankEntry .loc) (s .actions j))) (w .ensures .0) ∙ ap (λ (x : Action). someBelow (a .k) (λ j. holding (x .proc) 1 (x .loc) (s .actions j))) z)
+    (c .unready .ensures s h ∙ ap (λ (x : Action). any (λ n. isNone (valueOf s n)) (x .inputs)) z)
 
 pub read-ready-spec : {M : Type 1} → statement M
 read-ready-spec =

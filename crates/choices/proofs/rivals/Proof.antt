@@ -1,38 +1,39 @@
+use Rattle.choices.proofs.Rests.{acquire-input, rivals-first, rivals-second, rivals-both}
+use Rattle.machine.specs.Shown.{shownEntry}
+use Rattle.rules.specs.Kinds.{kind, acquiring}
+use borrow.Author.Tests.{eq-eqb}
+use mathlib.Core.Bool.{true}
+use mathlib.Core.Path.{_≡_, refl, _∙_, sym, ap, subst}
 use borrow.Author.Needs.{needs}
 use Rattle.choices.proofs.rivals.Statement.{statement}
 use Rattle.choices.proofs.rivals.Tie as tie
-use Rattle.choices.proofs.rivals.Reads as reads
-use Rattle.choices.proofs.rivals.Lts as lts
-use Rattle.committing.proofs.input.Reads as input-reads
-use Rattle.rules.proofs.kind_of.Reads as kind-of-reads
 
--- src/lib.rt:120:8
 kind-of-requires : tie.Need-kind-of-requires
 kind-of-requires c κs = search needs
 
--- src/lib.rt:121:9
 returns : tie.Need-returns
-returns c = ?
+returns c = let a = c .before .before .args in λ s h. rivals-first s (shownEntry (a .c) (a .a)) (shownEntry (a .c) (a .b)) (c .before .kind-of .result) (c .before .kind-of .ensures .0) (c .if1 .taken)
 
--- src/lib.rt:124:8
 kind-of-requires-2 : tie.Need-kind-of-requires-2
 kind-of-requires-2 c κs = search needs
 
--- src/lib.rt:125:9
 returns-2 : tie.Need-returns-2
-returns-2 c = ?
+returns-2 c = let a = c .before .before .before .before .args in λ s h. rivals-second s (shownEntry (a .c) (a .a)) (shownEntry (a .c) (a .b)) (c .before .kind-of2 .result) (c .before .kind-of2 .ensures .0) (c .if2 .taken)
 
--- src/lib.rt:127:9
 input-requires : tie.Need-input-requires
 input-requires c κs = search needs
 
--- src/lib.rt:128:9
 input-requires-2 : tie.Need-input-requires-2
 input-requires-2 c κs = search needs
 
--- src/lib.rt:115:1
 returns-3 : tie.Need-returns-3
-returns-3 c = ?
+returns-3 c =
+    let a = c .before .before .before .before .before .before .args in
+    let p : acquiring (kind (a .a .instr)) ≡ true = eq-eqb _ 6 (sym (c .before .before .before .before .before .kind-of .ensures .0) ∙ c .before .before .before .before .if1 .left) in
+    let q : acquiring (kind (a .b .instr)) ≡ true = eq-eqb _ 6 (sym (c .before .before .before .kind-of2 .ensures .0) ∙ c .before .before .if2 .left) in
+    λ s h. rivals-both s (shownEntry (a .c) (a .a)) (shownEntry (a .c) (a .b)) p q (c .before .input .result) (c .input2 .result)
+    (c .before .input .ensures s h ∙ acquire-input (a .c) s (a .a .instr) (a .a .first) (a .a .second) p)
+    (c .input2 .ensures s h ∙ acquire-input (a .c) s (a .b .instr) (a .b .first) (a .b .second) q)
 
 pub rivals-spec : {M : Type 1} → statement M
 rivals-spec =

@@ -1,52 +1,55 @@
+use borrow.Author.Needs.{needs}
+use Rattle.choices.proofs.Rests.{no-set}
+use Rattle.orders.specs.Rows.{orderOf, SetOf}
+use Rattle.words.specs.Sets.{has}
+use mathlib.Core.Bool.{Bool, _&&_, not}
+use native.Mathlib.Omega.{arith}
+use Prim.Native.Nat.{ℕ, _+_, _≤_, _<_, _-_, _*_, _/_, _%_}
+use mathlib.Core.Path.{_≡_, refl, _∙_, sym, ap, subst}
 use Rattle.choices.proofs.uncovered.Statement.{statement}
 use Rattle.choices.proofs.uncovered.Tie as tie
-use Rattle.choices.proofs.uncovered.Reads as reads
-use Rattle.choices.proofs.uncovered.Lts as lts
-use Rattle.orders.proofs.before.Reads as before-reads
-use Rattle.orders.proofs.with.Reads as with-reads
-use Rattle.words.proofs.has.Reads as has-reads
 
 abbrev Inv-loop : tie.InvT-loop
-Inv-loop rows l items gone n i seen₀ e₀ seen e = ?
+Inv-loop rows l items gone n i seen₀ e₀ seen e = (e ≤ n) × SetOf e (λ x. has items x && not (has gone x) && not (orderOf rows l i x)) seen
 
 abbrev μ-loop : tie.MeasureT-loop
-μ-loop rows l items gone n i seen₀ e₀ seen e = ?
+μ-loop rows l items gone n i seen₀ e₀ seen e = n - e
 
--- src/lib.rt:296:5
 loop-holds : tie.Need-loop-holds Inv-loop μ-loop
-loop-holds c = ?
+loop-holds c = let a = c .args in (search needs, no-set (λ x. has (a .items) x && not (has (a .gone) x) && not (orderOf (a .rows .now) (a .l) (a .i) x)))
 
--- src/lib.rt:297:13
 has-requires : tie.Need-has-requires Inv-loop μ-loop
-has-requires c κs = ?
+has-requires c κs = search needs
 
--- src/lib.rt:298:13
 has-requires-2 : tie.Need-has-requires-2 Inv-loop μ-loop
-has-requires-2 c κs = ?
+has-requires-2 c κs = search needs
 
--- src/lib.rt:299:13
 before-requires : tie.Need-before-requires Inv-loop μ-loop
-before-requires c κs = ?
+before-requires c κs = search needs
 
--- src/lib.rt:300:9
 with-requires : tie.Need-with-requires Inv-loop μ-loop
-with-requires c κs = ?
+with-requires c κs = search needs
 
--- src/lib.rt:301:9
 add-e : tie.Need-add-e Inv-loop μ-loop
-add-e c = ?
+add-e c = search needs
 
--- src/lib.rt:296:5
 loop-less : tie.Need-loop-less Inv-loop μ-loop
-loop-less c = ?
+loop-less c = search needs
 
--- src/lib.rt:296:5
 loop-again : tie.Need-loop-again Inv-loop μ-loop
-loop-again c = ?
+loop-again c =
+    let at = c .before .before .before .before .before in
+    let a = at .before .args in (
+      search needs,
+      c .with .ensures (λ x. has (a .items) x && not (has (a .gone) x) && not (orderOf (a .rows .now) (a .l) (a .i) x)) (at .loop .inv .1)
+          (λ j. c .before .before .before .has .ensures j && not (c .before .before .has2 .ensures j) && not (c .before .before2 .ensures j)),
+    )
 
--- src/lib.rt:290:1
 returns : tie.Need-returns Inv-loop μ-loop
-returns c = ?
+returns c =
+    let a = c .before .before .args in
+    let q : c .before .loop .e ≡ a .n = omega arith in
+    subst (λ (n : ℕ). SetOf n (λ x. has (a .items) x && not (has (a .gone) x) && not (orderOf (a .rows .now) (a .l) (a .i) x)) (c .before .loop .seen)) q (c .before .loop .inv .1)
 
 pub uncovered-spec : {M : Type 1} → statement M
 uncovered-spec =

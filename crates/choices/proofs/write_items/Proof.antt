@@ -1,60 +1,74 @@
+use borrow.Author.Needs.{needs}
+use Rattle.choices.proofs.Sights.{first-given, given-item}
+use Rattle.choices.specs.Opening.{writeTo, givenTo}
+use Rattle.machine.proofs.Items.{item-is, first-item}
+use Rattle.machine.proofs.Entries.{action-at}
+use Rattle.orders.specs.Rows.{SetOf}
+use Rattle.rules.specs.Commit.{writes}
+use Rattle.rules.specs.State.{State, Action}
+use Rattle.words.specs.Small.{isNone}
+use lib.Dec.{eqb}
+use mathlib.Core.Bool.{_&&_, not}
+use Rattle.machine.specs.Shown.{Acts}
+use Rattle.cases.specs.declared.Case.{Case}
+use native.Mathlib.Omega.{arith}
+use Prim.Native.Nat.{ℕ, _+_, _≤_, _<_, _-_, _*_, _/_, _%_}
+use mathlib.Core.Path.{_≡_, refl, _∙_, sym, ap, subst}
 use Rattle.choices.proofs.write_items.Statement.{statement}
 use Rattle.choices.proofs.write_items.Tie as tie
-use Rattle.choices.proofs.write_items.Reads as reads
-use Rattle.choices.proofs.write_items.Lts as lts
-use Rattle.committing.proofs.writes_at.Reads as writes-at-reads
-use Rattle.orders.proofs.with.Reads as with-reads
-use Rattle.words.proofs.one.Reads as one-reads
 
 abbrev Inv-loop : tie.InvT-loop
-Inv-loop issued l acts items₀ k₀ items k = ?
+Inv-loop issued l acts items₀ k₀ items k = (k ≤ issued) × ((c : Case) (s : State) → Acts c issued acts s → SetOf (8 + k) (writes s l) items)
 
 abbrev μ-loop : tie.MeasureT-loop
-μ-loop issued l acts items₀ k₀ items k = ?
+μ-loop issued l acts items₀ k₀ items k = issued - k
 
--- src/lib.rt:234:9
 one-requires : tie.Need-one-requires Inv-loop μ-loop
-one-requires c κs = ?
+one-requires c κs = search needs
 
--- src/lib.rt:236:5
 loop-holds : tie.Need-loop-holds Inv-loop μ-loop
-loop-holds c = ?
+loop-holds c =
+    let a = c .before .args in
+    (search needs, λ k s h. subst (SetOf 8 (writes s (a .l))) (sym (c .one .ensures)) (first-item (writeTo (a .l)) s (a .l) (c .before .pre .2)))
 
--- src/lib.rt:237:17
 mul-e : tie.Need-mul-e Inv-loop μ-loop
-mul-e c = ?
+mul-e c = search needs
 
--- src/lib.rt:237:17
 array-copy-out-e : tie.Need-array-copy-out-e Inv-loop μ-loop
-array-copy-out-e c = ?
+array-copy-out-e c = search needs
 
--- src/lib.rt:238:13
 writes-at-requires : tie.Need-writes-at-requires Inv-loop μ-loop
-writes-at-requires c κs = ?
+writes-at-requires c κs = search needs
 
--- src/lib.rt:239:37
 add-with : tie.Need-add-with Inv-loop μ-loop
-add-with c = ?
+add-with c = search needs
 
--- src/lib.rt:239:9
 with-requires : tie.Need-with-requires Inv-loop μ-loop
-with-requires c κs = ?
+with-requires c κs = search needs
 
--- src/lib.rt:240:9
 add-k : tie.Need-add-k Inv-loop μ-loop
-add-k c = ?
+add-k c = search needs
 
--- src/lib.rt:236:5
 loop-less : tie.Need-loop-less Inv-loop μ-loop
-loop-less c = ?
+loop-less c = search needs
 
--- src/lib.rt:236:5
 loop-again : tie.Need-loop-again Inv-loop μ-loop
-loop-again c = ?
+loop-again c =
+    let at = c .before .before .before .before in
+    let a = c .before .before .before .before .before .before .args in
+    let n = at .loop .k in
+    let q : 8 + n + 1 ≡ 8 + (n + 1) = omega arith in (
+      search needs,
+      λ k s h. subst (λ (x : ℕ). SetOf x (writes s (a .l)) (c .with .result)) q
+          (c .with .ensures (writes s (a .l)) (at .loop .inv .1 k s h)
+          (c .before .writes-at .ensures k ∙ ap (λ (x : Action). writeTo (a .l) x) (sym (action-at k (a .issued) (a .t1) s h n (omega arith))) ∙ sym (item-is (writeTo (a .l)) s (eqb (8 + n) (a .l)) n))),
+    )
 
--- src/lib.rt:230:1
 returns : tie.Need-returns Inv-loop μ-loop
-returns c = ?
+returns c =
+    let a = c .before .before .before .args in
+    let q : c .before .loop .k ≡ a .issued = omega arith in
+    λ k s h. subst (λ (n : ℕ). SetOf (8 + n) (writes s (a .l)) (c .before .loop .items)) q (c .before .loop .inv .1 k s h)
 
 pub write-items-spec : {M : Type 1} → statement M
 write-items-spec =

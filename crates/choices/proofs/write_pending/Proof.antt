@@ -1,46 +1,52 @@
+use borrow.Author.Needs.{needs}
+use Rattle.machine.proofs.Entries.{action-at}
+use Rattle.orders.proofs.Reached.{below-none, below-next}
+use Rattle.sure.specs.Quiet.{pending}
+use Rattle.rules.specs.State.{State}
+use Rattle.words.specs.Small.{someBelow}
+use Rattle.machine.specs.Shown.{Acts}
+use Rattle.cases.specs.declared.Case.{Case}
+use native.Mathlib.Omega.{arith}
+use Prim.Native.Nat.{ℕ, _+_, _≤_, _<_, _-_, _*_, _/_, _%_}
+use mathlib.Core.Path.{_≡_, refl, _∙_, sym, ap, subst}
 use Rattle.choices.proofs.write_pending.Statement.{statement}
 use Rattle.choices.proofs.write_pending.Tie as tie
-use Rattle.choices.proofs.write_pending.Reads as reads
-use Rattle.choices.proofs.write_pending.Lts as lts
-use Rattle.choices.proofs.write_queued.Reads as write-queued-reads
 
 abbrev Inv-loop : tie.InvT-loop
-Inv-loop issued l acts found₀ k₀ found k = ?
+Inv-loop issued l acts found₀ k₀ found k = (k ≤ issued) × ((c : Case) (s : State) → Acts c issued acts s → found ≡ someBelow k (λ j. pending l (s .actions j)))
 
 abbrev μ-loop : tie.MeasureT-loop
-μ-loop issued l acts found₀ k₀ found k = ?
+μ-loop issued l acts found₀ k₀ found k = issued - k
 
--- src/lib.rt:639:5
 loop-holds : tie.Need-loop-holds Inv-loop μ-loop
-loop-holds c = ?
+loop-holds c = (search needs, λ k s h. below-none (λ j. pending (c .args .l) (s .actions j)))
 
--- src/lib.rt:640:17
 mul-e : tie.Need-mul-e Inv-loop μ-loop
-mul-e c = ?
+mul-e c = search needs
 
--- src/lib.rt:640:17
 array-copy-out-e : tie.Need-array-copy-out-e Inv-loop μ-loop
-array-copy-out-e c = ?
+array-copy-out-e c = search needs
 
--- src/lib.rt:641:13
 write-queued-requires : tie.Need-write-queued-requires Inv-loop μ-loop
-write-queued-requires c κs = ?
+write-queued-requires c κs = search needs
 
--- src/lib.rt:643:9
 add-k : tie.Need-add-k Inv-loop μ-loop
-add-k c = ?
+add-k c = search needs
 
--- src/lib.rt:639:5
 loop-less : tie.Need-loop-less Inv-loop μ-loop
-loop-less c = ?
+loop-less c = search needs
 
--- src/lib.rt:639:5
 loop-again : tie.Need-loop-again Inv-loop μ-loop
-loop-again c = ?
+loop-again c =
+    let at = c .before .before .before in
+    let a = at .before .args in
+    (search needs, λ k s h. below-next (at .loop .k) (λ j. pending (a .l) (s .actions j)) (at .loop .found) (c .write-queued .result) (at .loop .inv .1 k s h) (c .write-queued .ensures k ∙ ap (pending (a .l)) (sym (action-at k (a .issued) (a .t1) s h (at .loop .k) (omega arith)))))
 
--- src/lib.rt:633:1
 returns : tie.Need-returns Inv-loop μ-loop
-returns c = ?
+returns c =
+    let a = c .before .before .args in
+    let q : c .before .loop .k ≡ a .issued = omega arith in
+    λ k s h. subst (λ (n : ℕ). c .before .loop .found ≡ someBelow n (λ j. pending (a .l) (s .actions j))) (q ∙ sym (h .count)) (c .before .loop .inv .1 k s h)
 
 pub write-pending-spec : {M : Type 1} → statement M
 write-pending-spec =
