@@ -14,7 +14,7 @@ use Rattle.cases.specs.Block.{faults, refusals, caseOf, answered, readOf}
 use Rattle.runs.specs.Listing.{Listed, Refused, IsListing}
 use Rattle.rules.specs.Womm.{womm}
 use Rattle.machine.specs.Fit.{Fit}
-use Rattle.machine.proofs.Fits.{fit-read}
+use Rattle.machine.proofs.Fits.{fit}
 use Rattle.listing.specs.Outcomes.{listRefusals, IsOutcomes}
 
 -- the first code of two lists
@@ -86,7 +86,7 @@ module _ (block : List ℕ) {r : CaseRead} (read : r ≡ readOf block) where
 
   -- a sound case has what the machine asks
   pub read-fit : r .code ≡ 0 → Fit (r .case)
-  read-fit z = subst Fit (sym (read-as z)) (fit-read block (unpassed (faults block) (passed (refusals block) refl (sym read-code ∙ z) .1 .1)))
+  read-fit z = subst Fit (sym (read-as z)) (fit block (unpassed (faults block) (passed (refusals block) refl (sym read-code ∙ z) .1 .1)))
 
   module _ {bound size : ℕ} {a : Listed} {out : List ℕ} where
     pub refused-block : (r .code ≡ 0 → ⊥) → Refused (r .code) size a out → IsOutcomes block bound size a out
