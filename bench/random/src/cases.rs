@@ -12,14 +12,16 @@ const VALUES: [u16; 8] = [0, 1, 2, 3, 7, 255, 256, 65_535];
 
 /// A case for listing: few instructions, mostly races.
 pub fn to_list(rng: &mut Rng) -> Case {
-    if rng.once_in(12) {
-        return two_sections(rng);
+    match rng.below(24) {
+        0 | 1 => return two_sections(rng),
+        2 | 3 => return spinning(rng),
+        _ => (),
     }
-    let processors = rng.pick(&[1, 2, 2, 2, 2, 3]);
+    let processors = rng.pick(&[1, 2, 2, 2, 2, 2, 3, 3, 4]);
     let locations = rng.pick(&[1, 2, 2, 3]);
     let mut case = started(rng, processors, locations);
     for p in 0..processors {
-        let count = rng.pick(&[1, 2, 2, 3]);
+        let count = if processors == 4 { 1 } else { rng.pick(&[1, 2, 2, 3]) };
         let mut program = program(rng, count, 12);
         for instr in &mut program {
             if rng.once_in(2) {
@@ -40,6 +42,22 @@ fn two_sections(rng: &mut Rng) -> Case {
     case.build().expect("a sound case")
 }
 
+/// A processor or two that wait until a location is no longer 0, beside one that writes: runs may be long,
+/// yet a branch keeps what can be issued early small.
+fn spinning(rng: &mut Rng) -> Case {
+    let waiting = 1 + rng.below(2);
+    let mut case = Case::builder(waiting as u8 + 1, 2);
+    for p in 0..=waiting {
+        case = case.preset(p, 0, 0).preset(p, 1, 1).preset(p, 7, p as u16 + 5);
+    }
+    let wait = [read(2, 0), equal(3, 2, 0), branch(3, 0), racing(rng)];
+    for p in 1..=waiting {
+        case = case.program(p, &wait[..3 + rng.below(2)]);
+    }
+    let writes: Vec<Instr> = (0..rng.below(2)).map(|_| racing(rng)).chain([write(0, 1)]).collect();
+    case.program(0, &writes).build().expect("a sound case")
+}
+
 /// A read or write of one of two locations; register 7 holds a value of the processor's own.
 fn racing(rng: &mut Rng) -> Instr {
     let address = rng.pick(&[0, 0, 1]);
@@ -48,6 +66,15 @@ fn racing(rng: &mut Rng) -> Instr {
     } else {
         write(address, 7)
     }
+}
+
+/// Whether some label does not lie past its own instruction.
+pub fn loops(case: &Case) -> bool {
+    let back = |(place, instr): (usize, &Instr)| match instr {
+        Instr::Branch { label, .. } | Instr::Goto { label } => usize::from(*label) <= place,
+        _ => false,
+    };
+    case.processors().iter().any(|processor| processor.program.iter().enumerate().any(back))
 }
 
 /// A case for replaying: long programs, loops and locks.

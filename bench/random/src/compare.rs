@@ -1,7 +1,7 @@
 use std::env;
 use std::process::ExitCode;
 
-use model::{Listed, Lister, Replayed, Replayer};
+use model::{Listed, Lister, Replayed, Replayer, RECORD};
 
 use crate::{Inputs, ListInput, ReplayInput, Tally};
 
@@ -10,7 +10,12 @@ pub trait Both: Lister + Replayer {}
 
 impl<T: Lister + Replayer> Both for T {}
 
-/// How much to compare.
+/// Every length of a schedule or a buffer up to this is handed over.
+pub(crate) const LENGTHS: usize = 400;
+/// A record buffer's length is also every multiple of 96 up to so many, with one byte less and one more.
+pub(crate) const RECORDS: usize = 40;
+
+/// How much to compare, beside the lengths.
 #[derive(Clone, Copy, Debug)]
 pub struct Plan {
     pub seed: u64,
@@ -29,48 +34,68 @@ pub enum Mismatch {
 
 /// Hands the same random inputs to both, in buffers that are not zero before.
 pub fn compare(plan: Plan, reference: &dyn Both, other: &dyn Both) -> Result<Tally, Box<Mismatch>> {
-    let mut tally = Tally::default();
+    let mut comparison = Comparison { tally: Tally::default(), reference, other };
     let mut inputs = Inputs::new(plan.seed);
     for _ in 0..plan.lists {
-        let listed = list(inputs.to_list(plan.schedules), reference, other)?;
-        tally.listed(listed);
+        comparison.list(inputs.to_list(plan.schedules))?;
+    }
+    for room in rooms() {
+        comparison.list(inputs.to_list_into(room, plan.schedules))?;
     }
     for _ in 0..plan.replays {
-        let replayed = replay(inputs.to_replay(&tally), reference, other)?;
-        tally.replayed(replayed);
+        comparison.replay(inputs.to_replay(&comparison.tally))?;
     }
-    Ok(tally)
+    for length in 0..=LENGTHS {
+        comparison.replay(inputs.to_replay_of(length, &comparison.tally))?;
+        comparison.replay(inputs.to_replay_into(length, &comparison.tally))?;
+    }
+    Ok(comparison.tally)
 }
 
-fn list(input: ListInput, reference: &dyn Both, other: &dyn Both) -> Result<Listed, Box<Mismatch>> {
-    let (mut ours, mut theirs) = (vec![0xA5; input.room], vec![0x5A; input.room]);
-    let expected = reference.outcomes(&input.block, input.bound, &mut ours);
-    let answer = other.outcomes(&input.block, input.bound, &mut theirs);
-    if (expected, ours) == (answer, theirs) {
-        return Ok(expected);
-    }
-    Err(Box::new(Mismatch::List { input, reference: expected, other: answer }))
+/// The lengths of record buffers that are all handed over.
+pub(crate) fn rooms() -> impl Iterator<Item = usize> {
+    let around = |n: usize| [n * RECORD - 1, n * RECORD, n * RECORD + 1];
+    (0..=LENGTHS).chain((LENGTHS / RECORD + 1..=RECORDS).flat_map(around))
 }
 
-fn replay(input: ReplayInput, reference: &dyn Both, other: &dyn Both) -> Result<Replayed, Box<Mismatch>> {
-    let (mut ours, mut theirs) = (vec![0xA5; input.room], vec![0x5A; input.room]);
-    let expected = reference.replay(&input.block, &input.schedule, &mut ours);
-    let answer = other.replay(&input.block, &input.schedule, &mut theirs);
-    if (expected, ours) == (answer, theirs) {
-        return Ok(expected);
+struct Comparison<'a> {
+    tally: Tally,
+    reference: &'a dyn Both,
+    other: &'a dyn Both,
+}
+
+impl Comparison<'_> {
+    fn list(&mut self, input: ListInput) -> Result<(), Box<Mismatch>> {
+        let (mut ours, mut theirs) = (vec![0xA5; input.room], vec![0x5A; input.room]);
+        let reference = self.reference.outcomes(&input.block, input.bound, &mut ours);
+        let other = self.other.outcomes(&input.block, input.bound, &mut theirs);
+        if (reference, ours) != (other, theirs) {
+            return Err(Box::new(Mismatch::List { input, reference, other }));
+        }
+        self.tally.listed(&input, reference);
+        Ok(())
     }
-    Err(Box::new(Mismatch::Replay { input, reference: expected, other: answer }))
+
+    fn replay(&mut self, input: ReplayInput) -> Result<(), Box<Mismatch>> {
+        let (mut ours, mut theirs) = (vec![0xA5; input.room], vec![0x5A; input.room]);
+        let reference = self.reference.replay(&input.block, &input.schedule, &mut ours);
+        let other = self.other.replay(&input.block, &input.schedule, &mut theirs);
+        if (reference, ours) != (other, theirs) {
+            return Err(Box::new(Mismatch::Replay { input, reference, other }));
+        }
+        self.tally.replayed(&input, reference);
+        Ok(())
+    }
 }
 
 /// Compares two implementations as the arguments say, and prints what was reached or where they differ.
-pub fn run(reference: &dyn Both, other: &dyn Both) -> ExitCode {
+pub fn run(usual: Plan, reference: &dyn Both, other: &dyn Both) -> ExitCode {
     let given: Vec<u64> = env::args().skip(1).map(|word| word.parse().expect("a number")).collect();
-    let number = |i: usize, usual: u64| given.get(i).copied().unwrap_or(usual);
     let plan = Plan {
-        seed: number(0, 1),
-        lists: number(1, 500) as u32,
-        replays: number(2, 10_000) as u32,
-        schedules: number(3, 20_000).into(),
+        seed: given.first().copied().unwrap_or(usual.seed),
+        lists: given.get(1).map_or(usual.lists, |&lists| lists as u32),
+        replays: given.get(2).map_or(usual.replays, |&replays| replays as u32),
+        schedules: given.get(3).map_or(usual.schedules, |&schedules| schedules.into()),
     };
     match compare(plan, reference, other) {
         Ok(tally) => {

@@ -1,12 +1,15 @@
 //! Random inputs of the two calls: block, schedule or bound, and a buffer's length.
 
-use model::{block, schedule, Case, Step, ENDING, RECORD};
+use model::{block, schedule, Case, Step, ACTIONS, ENDING, RECORD, STEPS};
 use states::Run;
 
 use crate::{cases, Rng, Tally};
 
+/// The most states of a listing, so that the enumerator takes some milliseconds.
+const STATES: usize = 2_000;
+
 /// What a listing is handed.
-#[derive(Clone, Debug)]
+#[derive(Clone, Debug, PartialEq, Eq)]
 pub struct ListInput {
     pub block: Vec<u8>,
     pub bound: u32,
@@ -14,7 +17,7 @@ pub struct ListInput {
 }
 
 /// What a replay is handed.
-#[derive(Clone, Debug)]
+#[derive(Clone, Debug, PartialEq, Eq)]
 pub struct ReplayInput {
     pub block: Vec<u8>,
     pub schedule: Vec<u8>,
@@ -36,16 +39,26 @@ impl Inputs {
         loop {
             let case = cases::to_list(&mut self.rng);
             let bound = self.bound(&case);
-            let listing = states::list(&case, bound);
-            if listing.schedules <= most && (listing.outcomes.len() >= 2 || self.rng.once_in(8)) {
+            let Some(listing) = states::list_within(&case, bound, STATES) else { continue };
+            let telling = listing.outcomes.len() >= 2 || listing.cut && usize::from(bound) > ACTIONS;
+            if listing.schedules <= most && (telling || self.rng.once_in(8)) {
                 let room = self.records_room(listing.outcomes.len());
                 return self.spoilt_list(ListInput { block: case.block().to_vec(), bound: bound.into(), room });
             }
         }
     }
 
-    /// Mostly the steps of one pass over every program, else a little less or more.
+    /// A listing of at most so many schedules into a buffer of a given length.
+    pub fn to_list_into(&mut self, room: usize, most: u128) -> ListInput {
+        ListInput { room, ..self.to_list(most) }
+    }
+
+    /// Mostly the steps of one pass over every program, now and then a little less or more; for a case with
+    /// a loop often any number.
     fn bound(&mut self, case: &Case) -> u8 {
+        if self.rng.once_in(if cases::loops(case) { 2 } else { 16 }) {
+            return self.rng.below(STEPS + 1) as u8;
+        }
         let instructions: usize = case.processors().iter().map(|processor| processor.program.len()).sum();
         let more = self.rng.pick(&[0, 0, 0, 0, 1, 2]);
         let fewer = if self.rng.once_in(5) { self.rng.below(2 * instructions + 1) } else { 0 };
@@ -87,10 +100,38 @@ impl Inputs {
         self.spoilt_replay(ReplayInput { block: case.block().to_vec(), schedule: steps.concat(), room: ENDING })
     }
 
+    /// A replay into a buffer of a given length.
+    pub fn to_replay_into(&mut self, room: usize, tally: &Tally) -> ReplayInput {
+        ReplayInput { room, ..self.to_replay(tally) }
+    }
+
+    /// A replay of a schedule cut to a given number of bytes, or filled up to it with issues.
+    pub fn to_replay_of(&mut self, length: usize, tally: &Tally) -> ReplayInput {
+        let mut input = self.to_replay(tally);
+        input.schedule.resize(length, 0);
+        input
+    }
+
+    /// A block and 96 steps, all of which are accepted.
+    pub fn to_replay_whole(&mut self) -> ReplayInput {
+        loop {
+            let case = cases::to_replay(&mut self.rng);
+            let steps = self.steps(&mut Run::new(&case), STEPS, 1);
+            if steps.len() == STEPS {
+                return ReplayInput { block: case.block().to_vec(), schedule: steps.concat(), room: ENDING };
+            }
+        }
+    }
+
     /// Takes accepted steps up to a random number or until there are none.
     fn walk(&mut self, run: &mut Run) -> Vec<[u8; 4]> {
         let most = if self.rng.once_in(5) { self.rng.below(20) } else { 20 + self.rng.below(77) };
         let eager = self.rng.below(4);
+        self.steps(run, most, eager)
+    }
+
+    /// Takes accepted steps, at most so many; an issue is preferred `eager` times in four.
+    fn steps(&mut self, run: &mut Run, most: usize, eager: usize) -> Vec<[u8; 4]> {
         let mut steps = vec![];
         while steps.len() < most {
             let accepted = run.accepted();

@@ -1,28 +1,47 @@
-use std::collections::BTreeMap;
+use std::collections::{BTreeMap, BTreeSet};
 use std::fmt;
 
 use model::{Listed, Refusal, Replayed};
 
+use crate::compare::{rooms, LENGTHS, RECORDS};
+use crate::{ListInput, ReplayInput};
+
 /// What the inputs reached.
 #[derive(Clone, Debug, Default, PartialEq, Eq)]
 pub struct Tally {
+    /// How many lists ended with each code.
     lists: BTreeMap<u32, u32>,
     several: u32,
+    most: u32,
     cut: u32,
+    /// Cut lists whose bound is over 48: runs of loops in which code 23 may arise.
+    long_lists: u32,
+    /// How many replays ended with each code.
     replays: BTreeMap<u32, u32>,
     long: u32,
+    whole: u32,
+    /// The lengths of the record buffers, schedules and result buffers.
+    records: BTreeSet<usize>,
+    schedules: BTreeSet<usize>,
+    results: BTreeSet<usize>,
 }
 
 impl Tally {
-    pub(crate) fn listed(&mut self, listed: Listed) {
+    pub(crate) fn listed(&mut self, input: &ListInput, listed: Listed) {
         *self.lists.entry(listed.code).or_default() += 1;
         self.several += u32::from(listed.count >= 2);
+        self.most = self.most.max(listed.count);
         self.cut += u32::from(listed.cut);
+        self.long_lists += u32::from(listed.cut && input.bound > 48);
+        self.records.insert(input.room);
     }
 
-    pub(crate) fn replayed(&mut self, replayed: Replayed) {
+    pub(crate) fn replayed(&mut self, input: &ReplayInput, replayed: Replayed) {
         *self.replays.entry(replayed.code).or_default() += 1;
         self.long += u32::from(replayed.steps >= 20);
+        self.whole += u32::from(replayed.steps == 96);
+        self.schedules.insert(input.schedule.len());
+        self.results.insert(input.room);
     }
 
     /// The replays that ended with a code.
@@ -38,6 +57,13 @@ impl Tally {
             && 2 * self.long >= self.replays.values().sum()
             && codes.filter(missing).count() == 0
             && (1..=7).all(|code| self.lists.contains_key(&code) && self.replays.contains_key(&code))
+            && self.lengths()
+    }
+
+    /// Every length asked for.
+    fn lengths(&self) -> bool {
+        rooms().all(|room| self.records.contains(&room))
+            && (0..=LENGTHS).all(|length| self.schedules.contains(&length) && self.results.contains(&length))
     }
 }
 
@@ -45,9 +71,12 @@ impl fmt::Display for Tally {
     fn fmt(&self, f: &mut fmt::Formatter<'_>) -> fmt::Result {
         let codes = |codes: &BTreeMap<u32, u32>| codes.iter().map(|(code, n)| format!(" {code}:{n}")).collect::<String>();
         let (lists, replays) = (self.lists.values().sum::<u32>(), self.replays.values().sum::<u32>());
-        writeln!(f, "lists {lists}, two or more outcomes {}, cut {}", self.several, self.cut)?;
+        let (several, most, cut, long) = (self.several, self.most, self.cut, self.long_lists);
+        writeln!(f, "lists {lists}, two or more outcomes {several}, at most {most}, cut {cut}, cut over 48 steps {long}")?;
         writeln!(f, "  by code{}", codes(&self.lists))?;
-        writeln!(f, "replays {replays}, 20 steps or more {}", self.long)?;
-        write!(f, "  by code{}", codes(&self.replays))
+        writeln!(f, "replays {replays}, 20 steps or more {}, 96 steps {}", self.long, self.whole)?;
+        writeln!(f, "  by code{}", codes(&self.replays))?;
+        let all = if self.lengths() { "yes" } else { "no" };
+        write!(f, "schedules and buffers of every length to {LENGTHS}, records around every multiple of 96 to {RECORDS}: {all}")
     }
 }

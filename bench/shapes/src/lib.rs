@@ -7,12 +7,10 @@
 mod lists;
 mod runs;
 mod stored;
-mod times;
 
-pub use lists::lists;
+pub use lists::{lists, locked_message, message};
 pub use runs::runs;
 pub use stored::{outcomes_prints, replay_prints, stored};
-pub use times::print_times;
 
 use std::collections::BTreeSet;
 

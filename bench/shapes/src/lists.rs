@@ -69,12 +69,12 @@ fn scope() -> Vec<Shape> {
 }
 
 /// H, which is MP: processor 0 writes x, then y; processor 1 reads y, then x.
-pub(crate) fn message() -> CaseBuilder {
+pub fn message() -> CaseBuilder {
     usual(2, &[&[write(0, 1), write(1, 1)], &[read(2, 1), read(3, 0)]])
 }
 
 /// H with acquire before and release after, on location 2, at both sides.
-pub(crate) fn locked_message() -> CaseBuilder {
+pub fn locked_message() -> CaseBuilder {
     let sends = [acquire(4), write(0, 1), write(1, 1), release(4)];
     let receives = [acquire(4), read(2, 1), read(3, 0), release(4)];
     usual(3, &[&sends, &receives]).preset(0, 4, 2).preset(1, 4, 2)
@@ -110,6 +110,7 @@ fn relaxed() -> Vec<Shape> {
         ends("MP", message(), &[(1, 2), (1, 3)], free(2)),
         ends("SB", buffering, &[(0, 2), (1, 2)], free(2)),
         ends("SB-locked", locked_buffering(), &[(0, 2), (1, 2)], rows(&[&[0, 1], &[1, 0]])),
+        ends("SB-sections", buffering_in_sections(), &[(0, 2), (1, 2)], rows(&[&[0, 1], &[1, 0], &[1, 1]])),
         ends("LB", figure_8(), &[(0, 2), (1, 2)], free(2)),
         ends("S", s, &[(1, 2), (2, 2)], product(&[&[0, 1], any])),
         ends("R", r, &[(1, 2), (2, 2)], product(&[&[0, 1], any])),
@@ -124,6 +125,25 @@ fn relaxed() -> Vec<Shape> {
 fn locked_buffering() -> CaseBuilder {
     let program = |mine: u8, other: u8| [acquire(4), write(mine, 1), read(2, other), release(4)];
     usual(3, &[&program(0, 1), &program(1, 0)]).preset(0, 4, 2).preset(1, 4, 2)
+}
+
+/// SB with every access in a critical section of its own.
+fn buffering_in_sections() -> CaseBuilder {
+    let program = |mine: u8, other: u8| [acquire(4), write(mine, 1), release(4), acquire(4), read(2, other), release(4)];
+    usual(3, &[&program(0, 1), &program(1, 0)]).preset(0, 4, 2).preset(1, 4, 2)
+}
+
+/// IRIW inside one lock, which is location 2: the two readers agree on which write came first.
+fn locked_iriw() -> Shape {
+    let writes = |a: u8| [acquire(4), write(a, 1), release(4)];
+    let reads = |first: u8, second: u8| [acquire(4), read(2, first), read(3, second), release(4)];
+    let mut case = usual(3, &[&writes(0), &writes(1), &reads(0, 1), &reads(1, 0)]);
+    for p in 0..4 {
+        case = case.preset(p, 4, 2);
+    }
+    let mut results = free(4);
+    results.retain(|row| row[..] != [0, 1, 0, 1] && row[..] != [1, 0, 1, 0]);
+    ends("IRIW-locked", case, &[(2, 2), (2, 3), (3, 2), (3, 3)], results)
 }
 
 /// What one location does: a processor sees its own writes in order, others do not.
@@ -159,6 +179,7 @@ fn wide() -> Vec<Shape> {
         ends("001-figure-3", figure_3, &[(2, 2), (2, 3), (3, 2), (3, 3), (3, 5)], free(5)),
         ends("SB-four", ring, &[(0, 2), (1, 2), (2, 2), (3, 2)], free(4)),
         ends("eight-reads", eight, &watched, free(8)),
+        locked_iriw(),
     ]
 }
 
@@ -187,8 +208,10 @@ fn spinning() -> Vec<Shape> {
     vec![
         message.clone().with("spin-11", 11, true, none),
         message.clone().with("spin-12", 12, true, sees.clone()),
-        message.with("spin-18", 18, true, sees),
+        message.clone().with("spin-18", 18, true, sees.clone()),
+        message.with("spin-96", 96, true, sees),
         two.clone().with("two-spin-14", 14, true, both.clone()),
-        two.with("two-spin-20", 20, true, both),
+        two.clone().with("two-spin-20", 20, true, both.clone()),
+        two.with("two-spin-53", 53, true, both),
     ]
 }

@@ -3,7 +3,7 @@
 use std::fs;
 use std::path::Path;
 
-use model::{Lister, Replayed, Replayer, RECORD};
+use model::{Lister, Outcome, Replayed, Replayer, Step, RECORD};
 use plain::Plain;
 use shapes::{lists, runs, Shape};
 use states::States;
@@ -83,6 +83,16 @@ fn h_needs_room_for_four() {
         let refused = lister.outcomes(&block, 97, &mut more);
         assert_eq!((refused.code, refused.count, more), (10, 0, [0; 5 * RECORD + 5]));
     }
+}
+
+/// A schedule found is one that is easy to follow: the length is read before it is written, not after.
+#[test]
+fn a_schedule_found_reads_what_is_there() {
+    let case = shapes::message().build().unwrap();
+    let wanted = |outcome: &Outcome| outcome.registers[1][2..4] == [Some(1), Some(0)];
+    let steps = states::find(&case, 8, wanted).unwrap();
+    assert_eq!(steps.len(), 8);
+    assert_eq!(steps[7], Step::Commit { processor: 0, action: 0, source: 0 });
 }
 
 /// Source 000's shown results, read from the result buffer of the stored schedules.

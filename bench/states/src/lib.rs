@@ -10,7 +10,7 @@ mod search;
 mod state;
 
 pub use replay::Run;
-pub use search::{find, list, Listing};
+pub use search::{find, list, list_within, Listing};
 
 use model::{block, Listed, Lister, Refusal, Replayed, Replayer, ENDING, RECORD, STEPS};
 

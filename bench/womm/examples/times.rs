@@ -1,5 +1,94 @@
-//! `times [MOST]` prints the times of the library, and of `plain` where it has at most so many nodes.
+//! `times [MOST]` times the library beside the plain depth-first search, where that has at most so many
+//! schedules to walk (by default 30,000,000), and beside the breadth-first enumerator; then replays.
+
+use std::env;
+use std::time::Instant;
+
+use model::{Lister, Replayer, ENDING, RECORD};
+use plain::Plain;
+use random::{Inputs, ReplayInput};
+use shapes::Shape;
+use states::States;
+use womm::Library;
+
+/// The records that the program `outcomes` has room for.
+const ROOM: usize = 682;
 
 fn main() {
-    shapes::print_times("library", &womm::Library);
+    let most = env::args().nth(1).map_or(30_000_000, |most| most.parse().expect("a number of schedules"));
+    println!("Milliseconds a list, the best of five (of one, where one takes over a second). The buffer of {ROOM} records is");
+    println!("allocated outside the timing, once for all five; every call clears all of it, inside the timing.\n");
+    println!(
+        "{:24}{:>5}{:>9}{:>11}{:>11}{:>11}{:>9}{:>9}  schedules",
+        "shape", "bound", "outcomes", "library", "depth", "breadth", "depth÷", "breadth÷"
+    );
+    for shape in shapes::lists() {
+        println!("{}", row(&shape, most));
+    }
+    println!();
+    replays();
+}
+
+/// A shape's line: times, and those of the two others divided by the library's.
+fn row(shape: &Shape, most: u128) -> String {
+    let listing = states::list(&shape.case, shape.bound);
+    let library = list_time(&Library, shape);
+    let depth = (listing.schedules <= most).then(|| list_time(&Plain, shape));
+    let breadth = list_time(&States, shape);
+    let time = |time: Option<f64>| time.map_or("-".to_string(), |time| format!("{:.3}", time * 1e3));
+    let ratio = |time: Option<f64>| time.map_or("-".to_string(), |time| format!("{:.1}", time / library));
+    format!(
+        "{:24}{:>5}{:>9}{:>11}{:>11}{:>11}{:>9}{:>9}  {}",
+        shape.name,
+        shape.bound,
+        listing.outcomes.len(),
+        time(Some(library)),
+        time(depth),
+        time(Some(breadth)),
+        ratio(depth),
+        ratio(Some(breadth)),
+        listing.schedules
+    )
+}
+
+fn list_time(lister: &dyn Lister, shape: &Shape) -> f64 {
+    let block = shape.case.block();
+    let mut records = vec![0; ROOM * RECORD];
+    best(|| {
+        lister.outcomes(&block, shape.bound.into(), &mut records);
+    })
+}
+
+/// Steps a second over random schedules of 96 accepted steps.
+fn replays() {
+    let mut random = Inputs::new(1);
+    let inputs: Vec<ReplayInput> = (0..1_000).map(|_| random.to_replay_whole()).collect();
+    println!("Replays of {} random schedules of 96 accepted steps, the best of five over all of them:", inputs.len());
+    for (name, replayer) in [("library", &Library as &dyn Replayer), ("plain Rust", &Plain)] {
+        let seconds = replay_time(replayer, &inputs);
+        let steps = 96.0 * inputs.len() as f64;
+        println!("{name:12}{:>12.0} steps a second, {:.3} ms a replay", steps / seconds, seconds * 1e3 / inputs.len() as f64);
+    }
+}
+
+fn replay_time(replayer: &dyn Replayer, inputs: &[ReplayInput]) -> f64 {
+    let mut result = [0; ENDING];
+    best(|| {
+        for input in inputs {
+            let replayed = replayer.replay(&input.block, &input.schedule, &mut result);
+            assert_eq!((replayed.code, replayed.steps), (0, 96));
+        }
+    })
+}
+
+/// The seconds of one call: the best of five, or of one if that took over a second.
+fn best(mut call: impl FnMut()) -> f64 {
+    let mut once = || {
+        let start = Instant::now();
+        call();
+        start.elapsed().as_secs_f64()
+    };
+    let first = once();
+    let more = if first > 1.0 { 0 } else { 4 };
+    (0..more).map(|_| once()).fold(first, f64::min)
 }

@@ -3,7 +3,9 @@
 #![deny(unsafe_code)]
 
 mod ffi;
+mod guarded;
 
+pub use guarded::Guarded;
 pub use model::{ops, Case, CaseBuilder, Ending, Instr, Listed, Lister, Outcome, Refusal, Replayed, Replayer, Step};
 
 use model::{schedule, ENDING, RECORD};
@@ -13,13 +15,17 @@ pub struct Library;
 
 impl Lister for Library {
     fn outcomes(&self, block: &[u8], bound: u32, records: &mut [u8]) -> Listed {
-        ffi::outcomes(block, bound, records)
+        let (mut count, mut cut) = (0, 0);
+        let code = ffi::outcomes(block, bound, records, &mut count, &mut cut);
+        Listed { code, count, cut: cut != 0 }
     }
 }
 
 impl Replayer for Library {
     fn replay(&self, block: &[u8], schedule: &[u8], result: &mut [u8]) -> Replayed {
-        ffi::replay(block, schedule, result)
+        let mut steps = 0;
+        let code = ffi::replay(block, schedule, result, &mut steps);
+        Replayed { code, steps }
     }
 }
 
@@ -41,7 +47,7 @@ pub struct Replay {
 /// Lists a case's outcomes, with room for so many.
 pub fn outcomes(case: &Case, bound: u32, room: usize) -> Result<Listing, Refusal> {
     let mut records = vec![0; room * RECORD];
-    let listed = ffi::outcomes(&case.block(), bound, &mut records);
+    let listed = Library.outcomes(&case.block(), bound, &mut records);
     match refusal(listed.code) {
         Some(refusal) => Err(refusal),
         None => {
@@ -55,7 +61,7 @@ pub fn outcomes(case: &Case, bound: u32, room: usize) -> Result<Listing, Refusal
 /// Replays a schedule. A step that is refused stops it; codes 1 to 9 refuse it whole.
 pub fn replay(case: &Case, steps: &[Step]) -> Result<Replay, Refusal> {
     let mut result = [0; ENDING];
-    let replayed = ffi::replay(&case.block(), &schedule(steps), &mut result);
+    let replayed = Library.replay(&case.block(), &schedule(steps), &mut result);
     match refusal(replayed.code) {
         Some(refusal) if refusal < Refusal::BadStep => Err(refusal),
         stopped => Ok(Replay { steps: replayed.steps, stopped, ending: Ending::read(&result) }),

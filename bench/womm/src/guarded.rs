@@ -1,0 +1,80 @@
+use std::hint::black_box;
+
+use model::{Listed, Lister, Replayed, Replayer};
+
+use crate::ffi;
+
+/// The library with everything it is lent standing between canaries. After each call the canaries stand,
+/// the inputs are what they were, and every number has been given.
+pub struct Guarded;
+
+/// An odd margin, so that slices start at odd addresses; wider than a record.
+const MARGIN: usize = 129;
+const CANARY: u8 = 0xC7;
+const NUMBER: u32 = 0xC7C7_C7C7;
+
+/// Bytes between two margins.
+struct Fenced(Vec<u8>);
+
+impl Fenced {
+    fn new(inner: &[u8]) -> Fenced {
+        Fenced([&[CANARY; MARGIN], inner, &[CANARY; MARGIN]].concat())
+    }
+
+    fn inner(&self) -> &[u8] {
+        &self.0[MARGIN..self.0.len() - MARGIN]
+    }
+
+    fn inner_mut(&mut self) -> &mut [u8] {
+        let end = self.0.len() - MARGIN;
+        &mut self.0[MARGIN..end]
+    }
+
+    /// What stands inside, once the margins have been looked at.
+    fn opened(&self, what: &str) -> &[u8] {
+        let (before, after) = (&self.0[..MARGIN], &self.0[self.0.len() - MARGIN..]);
+        assert!([before, after].concat().iter().all(|&byte| byte == CANARY), "a byte beside the {what} was written");
+        self.inner()
+    }
+}
+
+/// A number between two others.
+struct FencedNumber([u32; 3]);
+
+impl FencedNumber {
+    fn new() -> FencedNumber {
+        FencedNumber([NUMBER; 3])
+    }
+
+    fn opened(&self, what: &str) -> u32 {
+        let [before, number, after] = *black_box(&self.0);
+        assert_eq!((before, after), (NUMBER, NUMBER), "a number beside the {what} was written");
+        assert_ne!(number, NUMBER, "the {what} was not given");
+        number
+    }
+}
+
+impl Lister for Guarded {
+    fn outcomes(&self, block: &[u8], bound: u32, records: &mut [u8]) -> Listed {
+        let (held, mut lent) = (Fenced::new(block), Fenced::new(records));
+        let (mut count, mut cut) = (FencedNumber::new(), FencedNumber::new());
+        let code = ffi::outcomes(held.inner(), bound, lent.inner_mut(), &mut count.0[1], &mut cut.0[1]);
+        assert_eq!(black_box(&held).opened("block"), block, "the block was written");
+        records.copy_from_slice(black_box(&lent).opened("records"));
+        let (count, cut) = (count.opened("count"), cut.opened("cut mark"));
+        assert!(cut <= 1, "cut {cut} is neither yes nor no");
+        Listed { code, count, cut: cut == 1 }
+    }
+}
+
+impl Replayer for Guarded {
+    fn replay(&self, block: &[u8], schedule: &[u8], result: &mut [u8]) -> Replayed {
+        let (held, steps_held, mut lent) = (Fenced::new(block), Fenced::new(schedule), Fenced::new(result));
+        let mut steps = FencedNumber::new();
+        let code = ffi::replay(held.inner(), steps_held.inner(), lent.inner_mut(), &mut steps.0[1]);
+        assert_eq!(black_box(&held).opened("block"), block, "the block was written");
+        assert_eq!(black_box(&steps_held).opened("schedule"), schedule, "the schedule was written");
+        result.copy_from_slice(black_box(&lent).opened("result"));
+        Replayed { code, steps: steps.opened("steps") }
+    }
+}
