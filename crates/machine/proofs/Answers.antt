@@ -17,7 +17,7 @@ use Rattle.cases.specs.Case.{countOf}
 use Rattle.rules.specs.State.{State, valueOf, waiting}
 use Rattle.rules.specs.Result.{registerBytes, registerOf, registers}
 use Rattle.machine.specs.Shown.{optionOf, placeOf}
-use Rattle.machine.proofs.Numbered.{blocks-long, block-at}
+use Rattle.machine.proofs.Listing.{blocks-long, block-at}
 
 pub byte-none : (known : Bool) (v j : ℕ) → not known ≡ true → j < 3 → 0 ≡ getD (registerBytes (optionOf known v)) j 0
 byte-none true v j h lt = absurd (false≢true h)

@@ -1,7 +1,7 @@
 pub mod Entries
 pub mod Items
 pub mod Stores
-pub mod Numbered
+pub mod Listing
 pub mod Answers
 pub mod Starting
 pub mod Fits

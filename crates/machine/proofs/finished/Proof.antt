@@ -5,7 +5,7 @@ use lib.ListN.{getD}
 use Rattle.words.specs.Small.{all as every, counting}
 use Rattle.rules.specs.Result.{finished as isFinished}
 use Rattle.machine.specs.Shown.{shown}
-use Rattle.machine.proofs.Numbered.{all-next}
+use Rattle.machine.proofs.Listing.{all-next}
 use Rattle.machine.proofs.Answers.{at-count, ended}
 use borrow.Author.Needs.{needs}
 use Rattle.machine.proofs.finished.Statement.{statement}
