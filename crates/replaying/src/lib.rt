@@ -37,9 +37,9 @@ pub fn walk(c: Case, schedule: &[u8]) -> Walked
     ensures { λ r. ⌜ IsWalk c (stepsOf (now (schedule .entry))) r ⌝ }
 {
     let mut m = machine::start(c);
-    let mut k: usize = 0;
-    while 4 * k < schedule.len() {
-        let i = 4 * k;
+    let mut steps: usize = 0;
+    while 4 * steps < schedule.len() {
+        let i = 4 * steps;
         let s = stepping::step(
             c,
             m,
@@ -53,16 +53,16 @@ pub fn walk(c: Case, schedule: &[u8]) -> Walked
         if code != 0 {
             return Walked {
                 code,
-                steps: k,
+                steps,
                 machine: next,
             };
         }
         m = next;
-        k += 1;
+        steps += 1;
     }
     Walked {
         code: 0,
-        steps: k,
+        steps,
         machine: m,
     }
 }

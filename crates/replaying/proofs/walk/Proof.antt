@@ -53,11 +53,11 @@ returns : tie.Need-returns Inv-loop μ-loop
 returns c =
     let at = c .before .before .before .before .before .before .before .before in
     let a = c .before .before .before .before .before .before .before .before .before .before .before .args in
-    let f : 4 * at .loop .k + 4 ≤ length (a .schedule .now) = omega (arith, c .before .before .before .before .before .before .before .loop-test .taken, c .before .before .before .before .before .before .before .before .before .before .before .pre .1) in
-    reached-stop (a .schedule .now) (a .c) (at .loop .k) (at .loop .m) (c .before .before .step .result) f (at .loop .inv .2) (c .before .before .step .ensures) (c .if1 .taken)
+    let f : 4 * at .loop .steps + 4 ≤ length (a .schedule .now) = omega (arith, c .before .before .before .before .before .before .before .loop-test .taken, c .before .before .before .before .before .before .before .before .before .before .before .pre .1) in
+    reached-stop (a .schedule .now) (a .c) (at .loop .steps) (at .loop .m) (c .before .before .step .result) f (at .loop .inv .2) (c .before .before .step .ensures) (c .if1 .taken)
 
-add-k : tie.Need-add-k Inv-loop μ-loop
-add-k c = search needs
+add-steps : tie.Need-add-steps Inv-loop μ-loop
+add-steps c = search needs
 
 loop-less : tie.Need-loop-less Inv-loop μ-loop
 loop-less c = search needs
@@ -66,14 +66,14 @@ loop-again : tie.Need-loop-again Inv-loop μ-loop
 loop-again c =
     let at = c .before .before .before .before .before .before .before .before in
     let a = c .before .before .before .before .before .before .before .before .before .before .before .args in
-    let f : 4 * at .loop .k + 4 ≤ length (a .schedule .now) = omega (arith, c .before .before .before .before .before .before .before .loop-test .taken, c .before .before .before .before .before .before .before .before .before .before .before .pre .1) in
-    (omega arith, c .before .before .step .ensures .valid, reached-next (a .schedule .now) (a .c) (at .loop .k) (at .loop .m) (c .before .before .step .result) f (at .loop .inv .2) (c .before .before .step .ensures) (c .if1 .left))
+    let f : 4 * at .loop .steps + 4 ≤ length (a .schedule .now) = omega (arith, c .before .before .before .before .before .before .before .loop-test .taken, c .before .before .before .before .before .before .before .before .before .before .before .pre .1) in
+    (omega arith, c .before .before .step .ensures .valid, reached-next (a .schedule .now) (a .c) (at .loop .steps) (at .loop .m) (c .before .before .step .result) f (at .loop .inv .2) (c .before .before .step .ensures) (c .if1 .left))
 
 returns-2 : tie.Need-returns-2 Inv-loop μ-loop
 returns-2 c =
     let at = c .before in
     let a = c .before .before .before .before .args in
-    reached-end (a .schedule .now) (a .c) (at .loop .k) (at .loop .m) (omega arith) (at .loop .inv .1) (at .loop .inv .2)
+    reached-end (a .schedule .now) (a .c) (at .loop .steps) (at .loop .m) (omega arith) (at .loop .inv .1) (at .loop .inv .2)
 
 pub walk-spec : {M : Type 1} → statement M
 walk-spec =
@@ -94,7 +94,7 @@ walk-spec =
     shared-slice-read-step-4
     step-requires
     returns
-    add-k
+    add-steps
     loop-less
     loop-again
     returns-2)
