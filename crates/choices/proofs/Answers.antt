@@ -1,11 +1,10 @@
 -- The sure step, the quiet read and the step that is taken. Assumes nothing.
 use mathlib.Core.Path.{_≡_, refl, sym, ap, subst, _∙_}
-use mathlib.Core.Logic.{⊎-elim}
 use mathlib.Core.Bool.{Bool, true, false, _&&_, _||_, not, false≢true}
 use Prim.Native.Nat.{ℕ, _+_, _/_, _%_, _<_, _≤_}
 use native.Mathlib.Omega.{arith}
 use native.Mathlib.Decide.{decLt}
-use lib.Dec.{eqb, leb}
+use lib.Dec.{eqb}
 use borrow.Author.Tests.{eqb-true, eq-eqb}
 use Rattle.words.specs.Small.{someBelow}
 use Rattle.words.proofs.Bools.{and-make}
@@ -14,12 +13,11 @@ use Rattle.rules.specs.Kinds.{reading}
 use Rattle.rules.specs.State.{State, kindOf}
 use Rattle.rules.specs.Issue.{issued}
 use Rattle.rules.specs.Commit.{committed}
-use Rattle.rules.specs.Step.{Step, issue, commit, stepCode, after}
+use Rattle.rules.specs.Step.{issue, commit, stepCode, after}
 use Rattle.rules.proofs.Accepted.{can-commit, after-issue, after-commit}
 use Rattle.sure.specs.Sure.{sureKind, roomy, sure}
 use Rattle.sure.specs.Quiet.{ended, pending, quiet}
 use Rattle.sure.specs.Spent.{Key, taking, issuing, stepBy}
-use Rattle.choices.specs.Words.{opens}
 use Rattle.choices.specs.Choice.{keyAt, SureAt, QuietAt}
 use Rattle.choices.specs.Opening.{SureCommit, SettledRead}
 use Rattle.choices.proofs.Spends.{key-lone, key-issue}

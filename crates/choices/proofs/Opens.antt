@@ -1,22 +1,22 @@
 -- The accepted steps of each word. Assumes nothing.
-use mathlib.Core.Path.{_≡_, refl, sym, ap, subst, _∙_}
-use mathlib.Core.Bool.{Bool, true, false, _&&_, _||_, not, false≢true}
+use mathlib.Core.Path.{_≡_, refl, sym, ap, _∙_}
+use mathlib.Core.Bool.{Bool, true, false, _&&_, _||_, not}
 use mathlib.Core.List.{List}
 use Prim.Native.Nat.{ℕ, _+_, _<_, _≤_}
 use native.Mathlib.Omega.{arith}
 use native.Mathlib.Decide.{decLt}
-use lib.Dec.{eqb, ltb, leb}
+use lib.Dec.{eqb}
 use borrow.Author.Tests.{lt-ltb, le-ltb, lt-leb, leb-false, eqb-true, eq-eqb, ne-eqb, not-true, not-false}
 use Rattle.words.specs.Small.{isNone, any, someBelow}
 use Rattle.words.specs.Sets.{has}
-use Rattle.words.specs.Refusals.{_when_, firstOf}
+use Rattle.words.specs.Refusals.{firstOf}
 use Rattle.words.proofs.Bools.{bool-eq, and-both, and-make, and-left, or-none, or-false}
 use Rattle.words.proofs.Sets.{has-zero}
 use Rattle.cases.specs.declared.Case.{Case}
-use Rattle.rules.specs.Kinds.{reading, syncs}
-use Rattle.rules.specs.State.{State, Action, kindOf, waiting, valueOf}
+use Rattle.rules.specs.Kinds.{reading}
+use Rattle.rules.specs.State.{State, Action, kindOf, valueOf}
 use Rattle.rules.specs.Issue.{issueRefusals}
-use Rattle.rules.specs.Commit.{visible, barred, commitRefusals}
+use Rattle.rules.specs.Commit.{visible, commitRefusals}
 use Rattle.rules.specs.Step.{issue, commit, stepCode}
 use Rattle.rules.proofs.Accepted.{CanCommit, can-issue, can-commit, commit-ok}
 use Rattle.orders.specs.Rows.{SetOf}

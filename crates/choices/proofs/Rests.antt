@@ -19,17 +19,17 @@ use Rattle.cases.specs.declared.Instr.{Instr}
 use Rattle.cases.specs.declared.Instr.the-variants.{Empty, Read, Write, Local, Branch, Goto, Acquire, Release}
 use Rattle.rules.specs.Kinds.{kind, acquiring, reads}
 use Rattle.rules.specs.State.{State, Action, kindOf, inputOf, valueOf, start, unissued}
-use Rattle.rules.specs.Step.{Step, issue, commit}
+use Rattle.rules.specs.Step.{issue, commit}
 use Rattle.words.specs.Small.{orZero}
 use Rattle.orders.specs.Rows.{SetOf}
 use Rattle.machine.specs.declared.Entry.{Entry}
 use Rattle.machine.specs.Shown.{inputsOf, nameOf, shownEntry, actionsOf, Acts}
 use Rattle.machine.proofs.Entries.{action-out}
 use Rattle.sure.specs.Spent.{Key, taking, issuing, stepBy, rivals, wakes}
-use Rattle.choices.specs.Words.{keyIn, spentBy}
+use Rattle.choices.specs.Words.{spentBy}
 use Rattle.choices.specs.Choice.{keyAt, RestedBy}
 use Rattle.choices.specs.Resting.{Cleared}
-use Rattle.choices.proofs.Spends.{key-read, key-lone, key-issue}
+use Rattle.choices.proofs.Spends.{key-issue}
 
 -- the location of an acquire is what its one input stands for
 

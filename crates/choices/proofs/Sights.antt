@@ -1,12 +1,12 @@
 -- The items that a read sees, as sets. Assumes nothing.
-use mathlib.Core.Path.{_≡_, refl, sym, ap, subst, _∙_}
-use mathlib.Core.Bool.{Bool, true, false, _&&_, _||_, not}
+use mathlib.Core.Path.{_≡_, refl, _∙_}
+use mathlib.Core.Bool.{Bool, true, false, _&&_, not}
 use mathlib.Core.List.{List}
 use Prim.Native.Nat.{ℕ, _+_, _*_, _-_, _^_, _<_, _≤_}
 use native.Mathlib.Omega.{arith}
 use native.Mathlib.Decide.{decLt}
 use lib.Bits.{bitOr}
-use lib.Dec.{eqb, ltb, leb}
+use lib.Dec.{eqb}
 use lib.ListN.{getD}
 use borrow.Author.Tests.{lt-ltb, le-ltb}
 use Rattle.words.specs.Small.{isNone, someBelow}
@@ -15,7 +15,7 @@ use Rattle.words.proofs.Sets.{has-or, has-zero}
 use Rattle.cases.specs.declared.Case.{Case}
 use Rattle.rules.specs.Kinds.{reading}
 use Rattle.rules.specs.Order.{Order}
-use Rattle.rules.specs.State.{State, Action, itemValue}
+use Rattle.rules.specs.State.{State, itemValue}
 use Rattle.rules.specs.Commit.{writes, visible}
 use Rattle.orders.specs.Rows.{orderOf, SetOf}
 use Rattle.orders.proofs.Reached.{below-next}

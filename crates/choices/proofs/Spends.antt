@@ -1,5 +1,5 @@
 -- What words say of a key, and one key more. Assumes nothing.
-use mathlib.Core.Path.{_≡_, refl, sym, ap, subst, _∙_}
+use mathlib.Core.Path.{_≡_, refl, sym, ap, _∙_}
 use mathlib.Core.Logic.{_⊎_, inl, inr, ⊎-elim}
 use mathlib.Core.Bool.{Bool, true, false, _&&_, _||_}
 use mathlib.Core.List.{List}
@@ -12,11 +12,11 @@ use lib.ListN.{length, getD, set, length-set}
 use lib.Seq.{getD-set-same, getD-set-other}
 use borrow.Author.Tests.{lt-ltb, le-ltb, ltb-true, eqb-true, eqb-false, eq-eqb, ne-eqb}
 use Rattle.words.specs.Sets.{has}
-use Rattle.words.proofs.Bools.{decide, or-cases, or-left, or-right, and-both, and-make}
+use Rattle.words.proofs.Bools.{or-cases, or-left, or-right, and-both, and-make}
 use Rattle.words.proofs.Sets.{has-or, has-one}
 use Rattle.sure.specs.Spent.{Key, taking, issuing}
 use Rattle.choices.specs.Words.{keyIn, spentBy}
-use Rattle.choices.specs.Choice.{keyAt, Noted}
+use Rattle.choices.specs.Choice.{Noted}
 
 -- keys by their word
 

@@ -1,6 +1,5 @@
 use borrow.Author.Tests.{lt-ltb, le-ltb}
 use Prim.Native.Nat.{_/_}
-use borrow.Author.Needs.{needs}
 use Rattle.choices.proofs.action_at.Statement.{statement}
 use Rattle.choices.proofs.action_at.Tie as tie
 

@@ -5,8 +5,8 @@ use Rattle.orders.proofs.Reached.{set-at}
 use Rattle.orders.specs.Rows.{orderOf, SetOf}
 use mathlib.Core.Bool.{Bool}
 use native.Mathlib.Omega.{arith}
-use Prim.Native.Nat.{ℕ, _+_, _≤_, _<_, _-_, _*_, _/_, _%_}
-use mathlib.Core.Path.{_≡_, refl, _∙_, sym, ap, subst}
+use Prim.Native.Nat.{ℕ, _≤_, _-_}
+use mathlib.Core.Path.{_≡_, _∙_, subst}
 use Rattle.choices.proofs.covered.Statement.{statement}
 use Rattle.choices.proofs.covered.Tie as tie
 

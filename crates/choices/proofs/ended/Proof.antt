@@ -9,7 +9,7 @@ use Rattle.words.specs.Small.{all as every, is, counting}
 use lib.ListN.{getD}
 use mathlib.Core.Option.{Option}
 use native.Mathlib.Omega.{arith}
-use Prim.Native.Nat.{ℕ, _+_, _≤_, _<_, _-_, _*_, _/_, _%_}
+use Prim.Native.Nat.{ℕ, _≤_, _-_}
 use mathlib.Core.Path.{_≡_, refl, _∙_, sym, ap, subst}
 use Rattle.choices.proofs.ended.Statement.{statement}
 use Rattle.choices.proofs.ended.Tie as tie

@@ -4,8 +4,8 @@ use Rattle.choices.proofs.Next.{Skipped, skip-none, skip-more, fresh-no
 use borrow.Author.Tests.{not-true, not-false}
 use mathlib.Core.Logic.{⊎-elim}
 use native.Mathlib.Omega.{arith}
-use Prim.Native.Nat.{ℕ, _+_, _≤_, _<_, _-_, _*_, _/_, _%_}
-use mathlib.Core.Path.{_≡_, refl, _∙_, sym, ap, subst}
+use Prim.Native.Nat.{_≤_, _-_}
+use mathlib.Core.Path.{_≡_, _∙_, sym, subst}
 use Rattle.choices.proofs.first_fresh.Statement.{statement}
 use Rattle.choices.proofs.first_fresh.Tie as tie
 

@@ -1,7 +1,7 @@
 use borrow.Author.Needs.{needs}
 use native.Mathlib.Omega.{arith}
-use Prim.Native.Nat.{ℕ, _+_, _≤_, _<_, _-_, _*_, _/_, _%_}
-use mathlib.Core.Path.{_≡_, refl, _∙_, sym, ap, subst}
+use Prim.Native.Nat.{_≤_, _-_}
+use mathlib.Core.Path.{_∙_, sym}
 use Rattle.choices.proofs.issuer.Statement.{statement}
 use Rattle.choices.proofs.issuer.Tie as tie
 

@@ -1,7 +1,7 @@
 use Rattle.choices.proofs.Opens.{lone-read, lone-other}
 use Rattle.machine.proofs.Entries.{action-at}
 use Rattle.rules.specs.State.{kindOf}
-use mathlib.Core.Path.{_≡_, refl, _∙_, sym, ap, subst}
+use mathlib.Core.Path.{_∙_, sym, ap}
 use borrow.Author.Needs.{needs}
 use Rattle.choices.proofs.lone_open.Statement.{statement}
 use Rattle.choices.proofs.lone_open.Tie as tie

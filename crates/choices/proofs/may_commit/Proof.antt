@@ -2,8 +2,8 @@ use Rattle.choices.proofs.Opens.{absent-commit, present-commit}
 use Rattle.machine.proofs.Entries.{action-at}
 use Rattle.rules.specs.State.{Action}
 use native.Mathlib.Omega.{arith}
-use Prim.Native.Nat.{ℕ, _+_, _≤_, _<_, _-_, _*_, _/_, _%_}
-use mathlib.Core.Path.{_≡_, refl, _∙_, sym, ap, subst}
+use Prim.Native.Nat.{_-_}
+use mathlib.Core.Path.{_∙_, sym, ap}
 use borrow.Author.Needs.{needs}
 use Rattle.choices.proofs.may_commit.Statement.{statement}
 use Rattle.choices.proofs.may_commit.Tie as tie

@@ -1,8 +1,8 @@
 use Rattle.choices.proofs.Opens.{absent-issue, present-issue}
 use mathlib.Core.Option.{Option}
 use native.Mathlib.Omega.{arith}
-use Prim.Native.Nat.{ℕ, _+_, _≤_, _<_, _-_, _*_, _/_, _%_}
-use mathlib.Core.Path.{_≡_, refl, _∙_, sym, ap, subst}
+use Prim.Native.Nat.{ℕ, _-_}
+use mathlib.Core.Path.{ap}
 use borrow.Author.Needs.{needs}
 use Rattle.choices.proofs.may_issue.Statement.{statement}
 use Rattle.choices.proofs.may_issue.Tie as tie

@@ -1,5 +1,4 @@
 use Rattle.choices.proofs.Bits.{has-less}
-use borrow.Author.Needs.{needs}
 use Rattle.choices.proofs.minus.Statement.{statement}
 use Rattle.choices.proofs.minus.Tie as tie
 

@@ -2,8 +2,8 @@ use borrow.Author.Needs.{needs}
 use Rattle.choices.proofs.Next.{Passed, pass-more, next-found, next-none}
 use Rattle.machine.specs.Shown.{shown}
 use native.Mathlib.Omega.{arith}
-use Prim.Native.Nat.{ℕ, _+_, _≤_, _<_, _-_, _*_, _/_, _%_}
-use mathlib.Core.Path.{_≡_, refl, _∙_, sym, ap, subst}
+use Prim.Native.Nat.{_≤_, _-_}
+use mathlib.Core.Path.{_≡_}
 use Rattle.choices.proofs.next_step.Statement.{statement}
 use Rattle.choices.proofs.next_step.Tie as tie
 

@@ -1,4 +1,3 @@
-use mathlib.Core.Path.{_≡_, sym}
 use Rattle.choices.proofs.Spends.{note-one}
 use borrow.Author.Needs.{needs}
 use Rattle.choices.proofs.note.Statement.{statement}

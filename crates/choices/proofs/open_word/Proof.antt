@@ -3,8 +3,8 @@ use Rattle.choices.specs.Opening.{machineOf}
 use Rattle.choices.specs.Words.{opens}
 use Rattle.machine.specs.Shown.{shown}
 use native.Mathlib.Omega.{arith}
-use Prim.Native.Nat.{ℕ, _+_, _≤_, _<_, _-_, _*_, _/_, _%_}
-use mathlib.Core.Path.{_≡_, refl, _∙_, sym, ap, subst}
+use Prim.Native.Nat.{ℕ, _-_}
+use mathlib.Core.Path.{_≡_, refl, _∙_, sym, ap}
 use borrow.Author.Needs.{needs}
 use Rattle.choices.proofs.open_word.Statement.{statement}
 use Rattle.choices.proofs.open_word.Tie as tie

@@ -2,8 +2,8 @@ use Rattle.choices.proofs.Answers.{quiet-none, quiet-some}
 use Rattle.machine.specs.Shown.{shown}
 use borrow.Author.Tests.{not-false}
 use native.Mathlib.Omega.{arith}
-use Prim.Native.Nat.{ℕ, _+_, _≤_, _<_, _-_, _*_, _/_, _%_}
-use mathlib.Core.Path.{_≡_, refl, _∙_, sym, ap, subst}
+use Prim.Native.Nat.{_-_}
+use mathlib.Core.Path.{refl, _∙_, sym}
 use borrow.Author.Needs.{needs}
 use Rattle.choices.proofs.quiet_read.Statement.{statement}
 use Rattle.choices.proofs.quiet_read.Tie as tie

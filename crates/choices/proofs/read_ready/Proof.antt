@@ -7,8 +7,8 @@ use Rattle.rules.specs.State.{Action, valueOf}
 use Rattle.words.specs.Small.{isNone, any, someBelow}
 use lib.ListN.{getD}
 use native.Mathlib.Omega.{arith}
-use Prim.Native.Nat.{ℕ, _+_, _≤_, _<_, _-_, _*_, _/_, _%_}
-use mathlib.Core.Path.{_≡_, refl, _∙_, sym, ap, subst}
+use Prim.Native.Nat.{ℕ, _-_}
+use mathlib.Core.Path.{_∙_, sym, ap}
 use borrow.Author.Needs.{needs}
 use Rattle.choices.proofs.read_ready.Statement.{statement}
 use Rattle.choices.proofs.read_ready.Tie as tie

@@ -1,9 +1,7 @@
 use lib.ListN.{getD}
 use Rattle.rules.specs.State.{kindOf}
 use Rattle.machine.proofs.Entries.{action-at}
-use mathlib.Core.Path.{_≡_, _∙_, sym, ap, refl}
-use Prim.Native.Nat.{ℕ, _/_, _%_}
-use native.Mathlib.Omega.{arith}
+use mathlib.Core.Path.{_∙_, sym, ap, refl}
 use Rattle.machine.specs.Shown.{shown, blankEntry, Acts}
 use Rattle.choices.proofs.Rests.{rest-none, rest-issue, rest-acquire, unissued-kind}
 use borrow.Author.Needs.{needs}

@@ -3,7 +3,7 @@ use Rattle.machine.specs.Shown.{shownEntry}
 use Rattle.rules.specs.Kinds.{kind, acquiring}
 use borrow.Author.Tests.{eq-eqb}
 use mathlib.Core.Bool.{true}
-use mathlib.Core.Path.{_≡_, refl, _∙_, sym, ap, subst}
+use mathlib.Core.Path.{_≡_, _∙_, sym}
 use borrow.Author.Needs.{needs}
 use Rattle.choices.proofs.rivals.Statement.{statement}
 use Rattle.choices.proofs.rivals.Tie as tie

@@ -6,8 +6,8 @@ use Rattle.words.specs.Small.{someBelow}
 use borrow.Author.Tests.{not-true}
 use mathlib.Core.Bool.{false≢true}
 use native.Mathlib.Omega.{arith}
-use Prim.Native.Nat.{ℕ, _+_, _≤_, _<_, _-_, _*_, _/_, _%_}
-use mathlib.Core.Path.{_≡_, refl, _∙_, sym, ap, subst}
+use Prim.Native.Nat.{ℕ, _-_}
+use mathlib.Core.Path.{_∙_, sym, ap}
 use borrow.Author.Needs.{needs}
 use Rattle.choices.proofs.settled_read.Statement.{statement}
 use Rattle.choices.proofs.settled_read.Tie as tie

@@ -1,4 +1,3 @@
-use borrow.Author.Needs.{needs}
 use Prim.Native.Nat.{_/_}
 use borrow.Author.Tests.{lt-ltb, le-ltb}
 use Rattle.choices.proofs.source_at.Statement.{statement}

@@ -4,8 +4,8 @@ use Rattle.rules.specs.Commit.{visible}
 use Rattle.rules.specs.State.{Action}
 use borrow.Author.Tests.{not-true, not-false}
 use native.Mathlib.Omega.{arith}
-use Prim.Native.Nat.{ℕ, _+_, _≤_, _<_, _-_, _*_, _/_, _%_}
-use mathlib.Core.Path.{_≡_, refl, _∙_, sym, ap, subst}
+use Prim.Native.Nat.{ℕ, _+_, _-_}
+use mathlib.Core.Path.{_∙_, sym, ap}
 use borrow.Author.Needs.{needs}
 use Rattle.choices.proofs.sources.Statement.{statement}
 use Rattle.choices.proofs.sources.Tie as tie

@@ -7,8 +7,8 @@ use Rattle.orders.specs.Rows.{orderOf}
 use Rattle.rules.specs.State.{State, kindOf}
 use lib.ListN.{getD}
 use native.Mathlib.Omega.{arith}
-use Prim.Native.Nat.{ℕ, _+_, _≤_, _<_, _-_, _*_, _/_, _%_}
-use mathlib.Core.Path.{_≡_, refl, _∙_, sym, ap, subst}
+use Prim.Native.Nat.{_≤_, _-_}
+use mathlib.Core.Path.{_≡_, _∙_, sym, ap, subst}
 use Rattle.choices.proofs.sure_commit.Statement.{statement}
 use Rattle.choices.proofs.sure_commit.Tie as tie
 

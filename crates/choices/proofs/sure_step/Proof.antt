@@ -1,9 +1,8 @@
 use Rattle.choices.proofs.Answers.{sure-lone, sure-issue, sure-none}
 use Rattle.choices.proofs.Opens.{issue-accepts}
 use Rattle.machine.specs.Shown.{shown}
-use native.Mathlib.Omega.{arith}
-use Prim.Native.Nat.{ℕ, _+_, _≤_, _<_, _-_, _*_, _/_, _%_}
-use mathlib.Core.Path.{_≡_, refl, _∙_, sym, ap, subst}
+use Prim.Native.Nat.{_-_}
+use mathlib.Core.Path.{refl, sym}
 use borrow.Author.Needs.{needs}
 use Rattle.choices.proofs.sure_step.Statement.{statement}
 use Rattle.choices.proofs.sure_step.Tie as tie

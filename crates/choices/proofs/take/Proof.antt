@@ -4,8 +4,8 @@ use Rattle.choices.proofs.Answers.{issue-at, commit-at, issue-after, co
 use Rattle.machine.specs.Shown.{shown}
 use Rattle.rules.specs.Step.{stepCode}
 use native.Mathlib.Omega.{arith}
-use Prim.Native.Nat.{ℕ, _+_, _≤_, _<_, _-_, _*_, _/_, _%_}
-use mathlib.Core.Path.{_≡_, refl, _∙_, sym, ap, subst}
+use Prim.Native.Nat.{_<_, _-_}
+use mathlib.Core.Path.{refl, _∙_, sym, ap}
 use borrow.Author.Needs.{needs}
 use Rattle.choices.proofs.take.Statement.{statement}
 use Rattle.choices.proofs.take.Tie as tie

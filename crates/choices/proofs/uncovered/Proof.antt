@@ -2,10 +2,10 @@ use borrow.Author.Needs.{needs}
 use Rattle.choices.proofs.Rests.{no-set}
 use Rattle.orders.specs.Rows.{orderOf, SetOf}
 use Rattle.words.specs.Sets.{has}
-use mathlib.Core.Bool.{Bool, _&&_, not}
+use mathlib.Core.Bool.{_&&_, not}
 use native.Mathlib.Omega.{arith}
-use Prim.Native.Nat.{ℕ, _+_, _≤_, _<_, _-_, _*_, _/_, _%_}
-use mathlib.Core.Path.{_≡_, refl, _∙_, sym, ap, subst}
+use Prim.Native.Nat.{ℕ, _≤_, _-_}
+use mathlib.Core.Path.{_≡_, subst}
 use Rattle.choices.proofs.uncovered.Statement.{statement}
 use Rattle.choices.proofs.uncovered.Tie as tie
 

@@ -1,7 +1,7 @@
 use mathlib.Core.Path.{_≡_, _∙_, sym, ap, subst}
 use Prim.Native.Nat.{ℕ, _≤_, _-_}
 use native.Mathlib.Omega.{arith}
-use Rattle.rules.specs.State.{State, Action}
+use Rattle.rules.specs.State.{State}
 use Rattle.sure.specs.Spent.{rivals as areRivals}
 use Rattle.orders.specs.Rows.{SetOf}
 use Rattle.machine.specs.Shown.{Acts, shownEntry}

@@ -1,5 +1,4 @@
 use Rattle.choices.proofs.Rests.{word-gone, word-left}
-use borrow.Author.Needs.{needs}
 use Rattle.choices.proofs.word_unless.Statement.{statement}
 use Rattle.choices.proofs.word_unless.Tie as tie
 

@@ -1,19 +1,16 @@
 use borrow.Author.Needs.{needs}
-use Rattle.choices.proofs.Sights.{first-given, given-item}
-use Rattle.choices.specs.Opening.{writeTo, givenTo}
+use Rattle.choices.specs.Opening.{writeTo}
 use Rattle.machine.proofs.Items.{item-is, first-item}
 use Rattle.machine.proofs.Entries.{action-at}
 use Rattle.orders.specs.Rows.{SetOf}
 use Rattle.rules.specs.Commit.{writes}
 use Rattle.rules.specs.State.{State, Action}
-use Rattle.words.specs.Small.{isNone}
 use lib.Dec.{eqb}
-use mathlib.Core.Bool.{_&&_, not}
 use Rattle.machine.specs.Shown.{Acts}
 use Rattle.cases.specs.declared.Case.{Case}
 use native.Mathlib.Omega.{arith}
-use Prim.Native.Nat.{ℕ, _+_, _≤_, _<_, _-_, _*_, _/_, _%_}
-use mathlib.Core.Path.{_≡_, refl, _∙_, sym, ap, subst}
+use Prim.Native.Nat.{ℕ, _+_, _≤_, _-_}
+use mathlib.Core.Path.{_≡_, _∙_, sym, ap, subst}
 use Rattle.choices.proofs.write_items.Statement.{statement}
 use Rattle.choices.proofs.write_items.Tie as tie
 

@@ -7,8 +7,8 @@ use Rattle.words.specs.Small.{someBelow}
 use Rattle.machine.specs.Shown.{Acts}
 use Rattle.cases.specs.declared.Case.{Case}
 use native.Mathlib.Omega.{arith}
-use Prim.Native.Nat.{ℕ, _+_, _≤_, _<_, _-_, _*_, _/_, _%_}
-use mathlib.Core.Path.{_≡_, refl, _∙_, sym, ap, subst}
+use Prim.Native.Nat.{ℕ, _≤_, _-_}
+use mathlib.Core.Path.{_≡_, _∙_, sym, ap, subst}
 use Rattle.choices.proofs.write_pending.Statement.{statement}
 use Rattle.choices.proofs.write_pending.Tie as tie
 
