@@ -1,6 +1,6 @@
 -- The ends of a search, what each makes of the buffer and the tally; and when a sure step is enough. Assumes nothing.
 use mathlib.Core.Path.{_≡_, refl, sym, _∙_, ap, subst}
-use mathlib.Core.Logic.{_⊎_, inl, inr, ⊎-elim}
+use mathlib.Core.Logic.{_⊎_, inl, inr}
 use mathlib.Core.Bool.{Bool, true, false}
 use mathlib.Core.List.{List}
 use Prim.Native.Nat.{ℕ, suc}
@@ -14,7 +14,7 @@ use Rattle.sure.proofs.Reduce.{Done}
 use Rattle.sure.proofs.Search.{Known}
 use Rattle.sure.proofs.Sweep.{Question, outcome, cut, Told, Tested, Sweep, runs, told-end, told-bound}
 use Rattle.records.specs.Buffer.{Among, Held}
-use Rattle.records.specs.Growth.{Filled, Joined, Grown}
+use Rattle.records.specs.Growth.{Grown}
 use Rattle.records.specs.Insertion.{Insertion}
 use Rattle.records.proofs.Growth.{in-second, filled-none, filled-of}
 use Rattle.listing.specs.declared.Tally.{Tally}

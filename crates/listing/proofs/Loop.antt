@@ -1,31 +1,28 @@
 -- The loop of a search over the open positions: its start, a turn, its end, and where there was no room. Assumes nothing.
-use mathlib.Core.Path.{_≡_, refl, sym, _∙_, ap, subst}
-use mathlib.Core.Logic.{_⊎_, inl, inr, ⊎-elim}
-use mathlib.Core.Bool.{Bool, true, false, not, true≢false}
+use mathlib.Core.Path.{_≡_, refl, sym, _∙_, subst}
+use mathlib.Core.Logic.{inl}
+use mathlib.Core.Bool.{true, false, true≢false}
 use mathlib.Core.List.{List}
 use Prim.Native.Nat.{ℕ, suc, _+_, _*_, _≤_, _<_}
 use native.Mathlib.Omega.{arith}
 use native.Mathlib.Decide.{decLt}
-use lib.Dec.{eqb, ltb}
 use lib.ListN.{length}
 use Rattle.words.proofs.Bools.{and-both}
 use Rattle.cases.specs.declared.Case.{Case}
-use Rattle.rules.specs.Kinds.{reading, acquiring}
+use Rattle.rules.specs.Kinds.{reading}
 use Rattle.rules.specs.State.{State, kindOf}
-use Rattle.rules.specs.Step.{Step, stepCode, after}
+use Rattle.rules.specs.Step.{stepCode, after}
 use Rattle.rules.specs.Result.{finished}
 use Rattle.sure.specs.Quiet.{quiet}
-use Rattle.sure.specs.Spent.{Spent, Key, taking, issuing, stepBy}
+use Rattle.sure.specs.Spent.{Spent, Key, taking, stepBy}
 use Rattle.sure.specs.Sure.{Sized, sure}
-use Rattle.sure.proofs.Reduce.{Done}
 use Rattle.sure.proofs.Spent.{Rested}
-use Rattle.sure.proofs.Search.{Known, Calm}
+use Rattle.sure.proofs.Search.{Known}
 use Rattle.sure.proofs.Commit.{the, can-take}
 use Rattle.sure.proofs.Held.{acquire-only}
-use Rattle.sure.proofs.Sweep.{Question, outcome, Told, Sweep, sweep-start, sweep-branch, tested-branch, sweep-turn, sweep-lacks, told-rest, told-quiet, source-there}
+use Rattle.sure.proofs.Sweep.{outcome, Told, Sweep, sweep-start, sweep-branch, tested-branch, sweep-turn, sweep-lacks, told-rest, told-quiet, source-there}
 use Rattle.records.specs.Buffer.{Held}
-use Rattle.records.specs.Growth.{Filled, Joined}
-use Rattle.records.proofs.Growth.{filled-of, filled-then, filled-none}
+use Rattle.records.proofs.Growth.{filled-of, filled-then}
 use Rattle.choices.specs.Words.{keyIn, opens, spentBy}
 use Rattle.choices.specs.Choice.{keyAt, opensAt, NextAt, Noted, RestedBy}
 use Rattle.listing.specs.declared.Tally.{Tally}

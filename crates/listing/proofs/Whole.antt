@@ -1,7 +1,7 @@
 -- From the search over a cleared buffer to the list of a case. Assumes nothing.
 use mathlib.Core.Path.{_≡_, refl, sym, _∙_, ap, subst, fun-ext}
 use mathlib.Core.Logic.{_↔_}
-use mathlib.Core.Bool.{Bool, true, false, false≢true, _&&_, _||_}
+use mathlib.Core.Bool.{Bool, true, false, false≢true}
 use mathlib.Core.List.{List, List·Memᴰ·not-nil}
 use Prim.Native.Nat.{ℕ, zero, suc, _≤_}
 use lib.Dec.{eqb, ltb}
@@ -18,7 +18,7 @@ use Rattle.rules.proofs.Listing.{listing-exists}
 use Rattle.sure.specs.Spent.{Key, taking, issuing, Spent, fresh}
 use Rattle.sure.specs.Sure.{Sized, forward}
 use Rattle.sure.proofs.Search.{Known, known-initial}
-use Rattle.sure.proofs.Reduce.{Done, done-from}
+use Rattle.sure.proofs.Reduce.{done-from}
 use Rattle.sure.proofs.Spent.{Rested}
 use Rattle.sure.proofs.Sweep.{Question, outcome, cut, Told, told-outcomes, told-cut}
 use Rattle.records.specs.Buffer.{recordsIn}

@@ -1,3 +1,5 @@
+-- The cycle of calls {explore}. The measure is the number of steps to go. The loop's invariant is `Turns` of Returns: what is told so far, what is
+-- spent by now, the open positions passed are spent, and a sure step is the first to be looked at. Assumes nothing.
 use mathlib.Core.Path.{_≡_, sym, _∙_, subst}
 use mathlib.Core.Logic.{⊎-elim}
 use Prim.Native.Nat.{ℕ, _<_, _-_}

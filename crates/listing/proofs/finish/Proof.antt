@@ -1,3 +1,4 @@
+-- A finished state tells its registers. Assumes nothing.
 use Rattle.machine.specs.Shown.{shown}
 use Rattle.listing.proofs.Ends.{searched-end}
 use borrow.Author.Needs.{needs}

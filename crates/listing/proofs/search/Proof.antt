@@ -1,3 +1,4 @@
+-- The buffer is cleared, searched from the start, and cleared again where there was no room. Assumes nothing.
 use mathlib.Core.Path.{refl}
 use lib.ListN.{length}
 use Rattle.listing.proofs.Whole.{sized, ready-start, from-start, whole-listed, whole-unlisted}

@@ -1,3 +1,4 @@
+-- Each processor that is present stands in the record. Assumes nothing.
 use Prim.Native.Nat.{_≤_, _-_}
 use borrow.Author.Needs.{needs}
 use Rattle.outcomes.proofs.print_line.Statement.{statement}

@@ -1,3 +1,4 @@
+-- Each record that is counted stands in the buffer. Assumes nothing.
 use Prim.Native.Nat.{_≤_, _-_}
 use borrow.Author.Needs.{needs}
 use Rattle.outcomes.proofs.print_lines.Statement.{statement}

@@ -1,3 +1,4 @@
+-- Each register of the processor stands in the record. Assumes nothing.
 use Prim.Native.Nat.{_≤_, _-_}
 use borrow.Author.Needs.{needs}
 use Rattle.outcomes.proofs.print_processor.Statement.{statement}

@@ -1,3 +1,4 @@
+-- As many records as an accepted answer counts fit the buffer. Assumes nothing.
 use native.Mathlib.Omega.{arith}
 use Rattle.listing.specs.Outcomes.{answerOf}
 use Rattle.listing.proofs.Exact.{outcomes-room}
