@@ -45,12 +45,12 @@ pub extern "C" fn womm_outcomes(
     bound: u32,
     records: &mut [u8],
     count: &mut usize,
-    cut: &mut u32,
+    cut: &mut usize,
 ) -> u32
     ensures { λ r. ⌜ IsOutcomes (now (block .entry)) bound (length (now (records .entry))) (listedAs r (now (count .exit)) (now (cut .exit))) (now (records .exit)) ⌝ }
 {
     let listed = listing::outcomes(block, bound, records);
     *count = listed.count;
-    *cut = listed.cut as u32;
+    *cut = listed.cut as usize;
     listed.code as u32
 }
