@@ -1,8 +1,9 @@
+use std::fmt::Debug;
 use std::hint::black_box;
 
 use model::{Listed, Lister, Replayed, Replayer};
 
-use crate::ffi;
+use crate::{ffi, short};
 
 /// The library with everything it is lent standing between canaries. After each call the canaries stand,
 /// the inputs are what they were, and every number has been given.
@@ -11,7 +12,8 @@ pub struct Guarded;
 /// An odd margin, so that slices start at odd addresses; wider than a record.
 const MARGIN: usize = 129;
 const CANARY: u8 = 0xC7;
-const NUMBER: u32 = 0xC7C7_C7C7;
+const SHORT: u32 = u32::from_ne_bytes([CANARY; 4]);
+const LONG: u64 = u64::from_ne_bytes([CANARY; 8]);
 
 /// Bytes between two margins.
 struct Fenced(Vec<u8>);
@@ -38,18 +40,19 @@ impl Fenced {
     }
 }
 
-/// A number between two others.
-struct FencedNumber([u32; 3]);
+/// A number between two others of its kind.
+struct FencedNumber<T>([T; 3]);
 
-impl FencedNumber {
-    fn new() -> FencedNumber {
-        FencedNumber([NUMBER; 3])
+impl<T: Copy + PartialEq + Debug> FencedNumber<T> {
+    fn new(canary: T) -> FencedNumber<T> {
+        FencedNumber([canary; 3])
     }
 
-    fn opened(&self, what: &str) -> u32 {
+    /// The number given, once those beside it have been looked at.
+    fn opened(&self, canary: T, what: &str) -> T {
         let [before, number, after] = *black_box(&self.0);
-        assert_eq!((before, after), (NUMBER, NUMBER), "a number beside the {what} was written");
-        assert_ne!(number, NUMBER, "the {what} was not given");
+        assert_eq!((before, after), (canary, canary), "a number beside the {what} was written");
+        assert_ne!(number, canary, "the {what} was not given");
         number
     }
 }
@@ -57,11 +60,11 @@ impl FencedNumber {
 impl Lister for Guarded {
     fn outcomes(&self, block: &[u8], bound: u32, records: &mut [u8]) -> Listed {
         let (held, mut lent) = (Fenced::new(block), Fenced::new(records));
-        let (mut count, mut cut) = (FencedNumber::new(), FencedNumber::new());
+        let (mut count, mut cut) = (FencedNumber::new(LONG), FencedNumber::new(SHORT));
         let code = ffi::outcomes(held.inner(), bound, lent.inner_mut(), &mut count.0[1], &mut cut.0[1]);
         assert_eq!(black_box(&held).opened("block"), block, "the block was written");
         records.copy_from_slice(black_box(&lent).opened("records"));
-        let (count, cut) = (count.opened("count"), cut.opened("cut mark"));
+        let (count, cut) = (short(count.opened(LONG, "count")), cut.opened(SHORT, "cut mark"));
         assert!(cut <= 1, "cut {cut} is neither yes nor no");
         Listed { code, count, cut: cut == 1 }
     }
@@ -70,11 +73,11 @@ impl Lister for Guarded {
 impl Replayer for Guarded {
     fn replay(&self, block: &[u8], schedule: &[u8], result: &mut [u8]) -> Replayed {
         let (held, steps_held, mut lent) = (Fenced::new(block), Fenced::new(schedule), Fenced::new(result));
-        let mut steps = FencedNumber::new();
+        let mut steps = FencedNumber::new(LONG);
         let code = ffi::replay(held.inner(), steps_held.inner(), lent.inner_mut(), &mut steps.0[1]);
         assert_eq!(black_box(&held).opened("block"), block, "the block was written");
         assert_eq!(black_box(&steps_held).opened("schedule"), schedule, "the schedule was written");
         result.copy_from_slice(black_box(&lent).opened("result"));
-        Replayed { code, steps: steps.opened("steps") }
+        Replayed { code, steps: short(steps.opened(LONG, "steps")) }
     }
 }

@@ -17,7 +17,7 @@ impl Lister for Library {
     fn outcomes(&self, block: &[u8], bound: u32, records: &mut [u8]) -> Listed {
         let (mut count, mut cut) = (0, 0);
         let code = ffi::outcomes(block, bound, records, &mut count, &mut cut);
-        Listed { code, count, cut: cut != 0 }
+        Listed { code, count: short(count), cut: cut != 0 }
     }
 }
 
@@ -25,7 +25,7 @@ impl Replayer for Library {
     fn replay(&self, block: &[u8], schedule: &[u8], result: &mut [u8]) -> Replayed {
         let mut steps = 0;
         let code = ffi::replay(block, schedule, result, &mut steps);
-        Replayed { code, steps }
+        Replayed { code, steps: short(steps) }
     }
 }
 
@@ -66,6 +66,11 @@ pub fn replay(case: &Case, steps: &[Step]) -> Result<Replay, Refusal> {
         Some(refusal) if refusal < Refusal::BadStep => Err(refusal),
         stopped => Ok(Replay { steps: replayed.steps, stopped, ending: Ending::read(&result) }),
     }
+}
+
+/// A count of records or steps.
+fn short(count: u64) -> u32 {
+    count.try_into().expect("no buffer holds so many records, and no schedule so many steps")
 }
 
 fn refusal(code: u32) -> Option<Refusal> {
