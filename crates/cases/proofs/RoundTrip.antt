@@ -14,7 +14,7 @@ use Rattle.words.proofs.First.{first-none}
 use Rattle.cases.specs.declared.Case.{Case}
 use Rattle.cases.specs.declared.CaseRead.{CaseRead}
 use Rattle.cases.specs.Instruction.{two}
-use Rattle.cases.specs.Block.{word, check, faults, refusals, caseOf, readOf, answered, contents, blockOf, Sound, writeCode, written}
+use Rattle.cases.specs.Block.{word, check, faults, refusals, caseOf, readOf, answered, contents, blockOf, Sound, sealCode, sealed, writeCode, written}
 use Rattle.cases.specs.Formed.{Bytes, Formed, Held}
 use Rattle.cases.proofs.Agree.{faults-same, check-same}
 use Rattle.cases.proofs.Decoding.{read-accepted, past-check}
@@ -130,3 +130,7 @@ read-unique s r r′ p q = p ∙ sym q
 -- At most one code and one buffer are right for a record and a size.
 pub write-unique : (c : Case) (size code code′ : ℕ) (block block′ : List ℕ) → (code ≡ writeCode c size) × (block ≡ written c size) → (code′ ≡ writeCode c size) × (block′ ≡ written c size) → (code ≡ code′) × (block ≡ block′)
 write-unique c size code code′ block block′ p q = (p .0 ∙ sym (q .0), p .1 ∙ sym (q .1))
+
+-- At most one code and one buffer are right for bytes to be sealed.
+pub seal-unique : (s : List ℕ) (code code′ : ℕ) (block block′ : List ℕ) → (code ≡ sealCode s) × (block ≡ sealed s) → (code′ ≡ sealCode s) × (block′ ≡ sealed s) → (code ≡ code′) × (block ≡ block′)
+seal-unique s code code′ block block′ a b = (a .0 ∙ sym (b .0), a .1 ∙ sym (b .1))

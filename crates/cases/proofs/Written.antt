@@ -1,6 +1,6 @@
--- What write_case answers: the three ways out. Assumes nothing.
+-- What seal answers, the three ways out; what write_case does by it. Assumes nothing.
 use mathlib.Core.Path.{_≡_, ap, sym, _∙_}
-use mathlib.Core.Bool.{not}
+use mathlib.Core.Bool.{not, cond}
 use mathlib.Core.List.{List, _∷_, _++_}
 use Prim.Native.Nat.{ℕ, _-_, _<_}
 use native.Mathlib.Omega.{arith}
@@ -14,39 +14,64 @@ use Rattle.words.proofs.First.{hit, first, not-yes}
 use Rattle.cases.specs.declared.Case.{Case}
 use Rattle.cases.specs.declared.Fault.{Fault}
 use Rattle.cases.specs.Instruction.{two}
-use Rattle.cases.specs.Block.{faults, check, contents, blockOf, writeCode, written}
+use Rattle.cases.specs.Block.{faults, check, contents, blockOf, sealCode, sealed, writeCode, written}
 use Rattle.cases.specs.Faults.{faultOf}
 use Rattle.cases.proofs.Agree.{faults-same, check-same}
 use Rattle.cases.proofs.Decoding.{fault-code}
 
-module _ (c : Case) where
-  pub no-room : (b b′ : List ℕ) → (length b ≡ 512 → ⊥) → b′ ≡ take 0 b ++ replicate (length b - 0) 0 → (1 ≡ writeCode c (length b)) × (b′ ≡ written c (length b))
+module _ (b b′ : List ℕ) where
+  -- all zeros
+  zeros : (n : ℕ) → n ≡ sealCode b → (n ≡ 0 → ⊥) → b′ ≡ take 0 b ++ replicate (length b - 0) 0 → b′ ≡ sealed b
+  unfolding sealed
+  zeros n q h e =
+      let z : length b - 0 ≡ length b = omega arith in
+      e ∙ ap (λ (n : ℕ). replicate n 0) z ∙ sym (cond-false (eqb (sealCode b) 0) (take 510 b ++ two (check b)) (replicate (length b) 0) (ne-eqb _ 0 (λ w. h (q ∙ w))))
+
+  pub no-room : (length b ≡ 512 → ⊥) → b′ ≡ take 0 b ++ replicate (length b - 0) 0 → (1 ≡ sealCode b) × (b′ ≡ sealed b)
+  unfolding sealCode
+  no-room h e =
+      let q = first (1 when not (eqb (length b) 512) ∷ faults b) (hit (not-yes _ (ne-eqb (length b) 512 h))) in
+      (q, zeros 1 q (λ w. absurd (omega arith)) e)
+
+  module _ (size : length b ≡ 512) (f : Fault) (e : f ≡ faultOf b) where
+    code-is : f .code ≡ sealCode b
+    unfolding sealCode firstOf
+    code-is = fault-code b f e ∙ rw (eq-eqb (length b) 512 size)
+
+    pub refused : (f .code ≡ 0 → ⊥) → b′ ≡ take 0 b ++ replicate (length b - 0) 0 → (f .code ≡ sealCode b) × (b′ ≡ sealed b)
+    refused h z = (code-is, zeros (f .code) code-is h z)
+
+    pub accepted : f .code ≡ 0 → b′ ≡ take 510 b ++ two (check b) → (0 ≡ sealCode b) × (b′ ≡ sealed b)
+    unfolding sealed
+    accepted h z =
+        let q = sym h ∙ code-is in
+        (q, z ∙ sym (cond-true (eqb (sealCode b) 0) (take 510 b ++ two (check b)) (replicate (length b) 0) (eq-eqb _ 0 (sym q))))
+
+-- a buffer that is filled with the contents of a case, and then sealed
+module _ (c : Case) (s : List ℕ) (long : length s ≡ 512) (front : take 510 s ≡ contents c) where
+  agrees : (i : ℕ) → i < 510 → getD s i 0 ≡ getD (contents c) i 0
+  agrees i h = sym (getD-take 510 s i 0 h) ∙ ap (λ (l : List ℕ). getD l i 0) front
+
+  pub code-written : sealCode s ≡ writeCode c 512
+  unfolding sealCode writeCode firstOf
+  code-written = rw (eq-eqb (length s) 512 long) (faults-same s (contents c) agrees)
+
+  pub sealed-written : sealed s ≡ written c 512
+  unfolding sealed written blockOf
+  sealed-written =
+      ap (λ (n : ℕ). cond (eqb n 0) (take 510 s ++ two (check s)) (replicate (length s) 0)) code-written
+      ∙ (λ i. cond (eqb (writeCode c 512) 0) (front i ++ two (check-same s (contents c) agrees i)) (replicate (long i) 0))
+
+module _ (c : Case) (b b′ : List ℕ) where
+  -- no room for the block
+  pub unwritten : (length b ≡ 512 → ⊥) → b′ ≡ take 0 b ++ replicate (length b - 0) 0 → (1 ≡ writeCode c (length b)) × (b′ ≡ written c (length b))
   unfolding written writeCode
-  no-room b b′ h e =
+  unwritten h e =
       let q = first (1 when not (eqb (length b) 512) ∷ faults (contents c)) (hit (not-yes _ (ne-eqb (length b) 512 h))) in
       let n : length b - 0 ≡ length b = omega arith in
       (q, e ∙ ap (λ (n : ℕ). replicate n 0) n ∙ sym (cond-false (eqb (writeCode c (length b)) 0) (blockOf c) (replicate (length b) 0) (ap (λ (n : ℕ). eqb n 0) (sym q))))
 
-  module _ (b s : List ℕ) (size : length b ≡ 512) (long : length s ≡ 512) (front : take 510 s ≡ contents c) where
-    agrees : (i : ℕ) → i < 510 → getD s i 0 ≡ getD (contents c) i 0
-    agrees i h = sym (getD-take 510 s i 0 h) ∙ ap (λ (l : List ℕ). getD l i 0) front
-
-    code-is : (f : Fault) → f ≡ faultOf s → f .code ≡ writeCode c (length b)
-    unfolding writeCode firstOf
-    code-is f e = fault-code s f e ∙ faults-same s (contents c) agrees ∙ rw (eq-eqb (length b) 512 size)
-
-    pub refused : (f : Fault) (b′ : List ℕ) → f ≡ faultOf s → (f .code ≡ 0 → ⊥) → b′ ≡ take 0 s ++ replicate (length s - 0) 0 → (f .code ≡ writeCode c (length b)) × (b′ ≡ written c (length b))
-    unfolding written
-    refused f b′ e h z =
-        let q = code-is f e in
-        let n : length s - 0 ≡ length b = omega arith in
-        (q, z ∙ ap (λ (n : ℕ). replicate n 0) n ∙ sym (cond-false (eqb (writeCode c (length b)) 0) (blockOf c) (replicate (length b) 0) (ne-eqb _ 0 (λ w. h (q ∙ w)))))
-
-    pub accepted : (f : Fault) (b′ : List ℕ) → f ≡ faultOf s → f .code ≡ 0 → b′ ≡ take 510 s ++ two (check s) → (0 ≡ writeCode c (length b)) × (b′ ≡ written c (length b))
-    unfolding written blockOf
-    accepted f b′ e h z =
-        let q = sym h ∙ code-is f e in (
-          q,
-          z ∙ ap (λ (l : List ℕ). l ++ two (check s)) front ∙ ap (λ (n : ℕ). contents c ++ two n) (check-same s (contents c) agrees)
-              ∙ sym (cond-true (eqb (writeCode c (length b)) 0) (blockOf c) (replicate (length b) 0) (eq-eqb _ 0 (sym q))),
-        )
+  pub written-by : (n : ℕ) (s : List ℕ) → length b ≡ 512 → length s ≡ 512 → take 510 s ≡ contents c → (n ≡ sealCode s) × (b′ ≡ sealed s) → (n ≡ writeCode c (length b)) × (b′ ≡ written c (length b))
+  written-by n s size long front w =
+      let q : 512 ≡ length b = sym size in
+      (w .0 ∙ code-written c s long front ∙ ap (writeCode c) q, w .1 ∙ sealed-written c s long front ∙ ap (written c) q)

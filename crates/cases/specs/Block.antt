@@ -4,7 +4,7 @@ use mathlib.Core.Bool.{Bool, _&&_, _||_, not, cond}
 use mathlib.Core.List.{List, [], _∷_, _++_}
 use Prim.Native.Nat.{ℕ, zero, suc, _+_, _*_, _-_, _/_, _%_}
 use lib.Dec.{eqb, ltb, leb}
-use lib.ListN.{length, getD, replicate}
+use lib.ListN.{length, getD, take, replicate}
 use Rattle.words.specs.Small.{each, someBelow, concatMap}
 use Rattle.words.specs.Refusals.{Refusal, _when_, firstOf}
 use Rattle.words.specs.Sets.{has}
@@ -180,6 +180,14 @@ blockOf c = contents c ++ two (check (contents c))
 -- A case is sound if it gets none of 3 to 7.
 abbrev pub Sound : Case → Type 0
 Sound c = firstOf (faults (contents c)) ≡ 0
+
+-- What sealing bytes answers: 1 on their length, then 3 to 7.
+unfoldable pub sealCode : List ℕ → ℕ
+sealCode s = firstOf (1 when not (eqb (length s) 512) ∷ faults s)
+
+-- What they then are: the first 510 with their check, or all zeros.
+unfoldable pub sealed : List ℕ → List ℕ
+sealed s = cond (eqb (sealCode s) 0) (take 510 s ++ two (check s)) (replicate (length s) 0)
 
 -- What writing a case into a buffer of a size answers, and what the buffer then holds.
 unfoldable pub writeCode : Case → ℕ → ℕ

@@ -6,7 +6,7 @@ mod writing;
 
 ghost use mathlib.Core.Path.{_≡_};
 ghost use lib.ListN.{length};
-ghost use Rattle.cases.specs.Block.{readOf, writeCode, written};
+ghost use Rattle.cases.specs.Block.{readOf, sealCode, sealed, writeCode, written};
 
 // What a local instruction computes.
 pub enum Expr {
@@ -73,6 +73,24 @@ pub fn read_case(block: &[u8]) -> CaseRead
     }
 }
 
+// Makes a block of a buffer that holds one but for its check. Refused, the buffer is all zeros.
+pub fn seal(block: &mut [u8]) -> u8
+    ensures { λ r. ⌜ (r ≡ sealCode (now (block .entry))) × (now (block .exit) ≡ sealed (now (block .entry))) ⌝ }
+{
+    if block.len() != 512 {
+        writing::clear(block, 0);
+        return 1;
+    }
+    let fault = faults::judge(block);
+    let code = fault.code;
+    if code != 0 {
+        writing::clear(block, 0);
+        return code;
+    }
+    writing::sign(block);
+    0
+}
+
 // Writes the block that holds a case. Refused, the buffer is all zeros.
 pub fn write_case(case: Case, block: &mut [u8]) -> u8
     ensures { λ r. ⌜ (r ≡ writeCode case (length (now (block .entry)))) × (now (block .exit) ≡ written case (length (now (block .entry)))) ⌝ }
@@ -82,12 +100,5 @@ pub fn write_case(case: Case, block: &mut [u8]) -> u8
         return 1;
     }
     writing::fill(case, block);
-    let fault = faults::judge(block);
-    let code = fault.code;
-    if code != 0 {
-        writing::clear(block, 0);
-        return code;
-    }
-    writing::sign(block);
-    0
+    seal(block)
 }

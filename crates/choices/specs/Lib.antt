@@ -1,2 +1,4 @@
 pub mod Words
 pub mod Choice
+pub mod Resting
+pub mod Opening

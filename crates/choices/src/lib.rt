@@ -1,1 +1,712 @@
 // The steps that a search takes from a machine: the sure one, the quiet read's, or all, without those that are spent.
+use cases::Case;
+use cases::Instr;
+use machine::Entry;
+use machine::Machine;
+ghost use mathlib.Core.Path.{_≡_};
+ghost use mathlib.Core.Bool.{Bool, true, _&&_, _||_, not, cond};
+ghost use Prim.Native.Nat.{ℕ, suc, _+_, _/_, _%_, _≤_, _<_};
+ghost use lib.Dec.{eqb, ltb, leb};
+ghost use lib.ListN.{length, getD};
+ghost use Rattle.words.specs.Small.{isNone, someBelow};
+ghost use Rattle.words.specs.Sets.{has as inSet};
+ghost use Rattle.cases.specs.declared.Case.{Case as TheCase};
+ghost use Rattle.cases.specs.Case.{countOf, instrAt};
+ghost use Rattle.rules.specs.State.{State};
+ghost use Rattle.rules.specs.Commit.{writes, visible};
+ghost use Rattle.rules.specs.Step.{commit, stepCode, after};
+ghost use Rattle.sure.specs.Sure.{backward, forward as isForward};
+ghost use Rattle.sure.specs.Quiet.{ended as hasEnded, pending};
+ghost use Rattle.sure.specs.Spent.{stepBy, rivals as areRivals};
+ghost use Rattle.orders.specs.Rows.{orderOf, SetOf};
+ghost use Rattle.machine.specs.Shown.{holderOf, placeOf, namesOf, shownEntry, shown, Acts};
+ghost use Rattle.machine.specs.Fit.{Fit};
+ghost use Rattle.machine.specs.Valid.{Valid};
+ghost use Rattle.committing.specs.Committed.{Entries};
+ghost use Rattle.choices.specs.Words.{opens, spentBy};
+ghost use Rattle.choices.specs.Choice.{keyAt, SureAt, QuietAt, NextAt, Noted, RestedBy};
+ghost use Rattle.choices.specs.Resting.{Cleared};
+ghost use Rattle.choices.specs.Opening.{writeTo, givenTo, Covers, queuedRead, readyRead, machineOf, FirstFresh, SureCommit, SettledRead};
+
+// Whether the instruction, at a place, may lead back to that place or before it.
+pub fn leads_back(i: Instr, place: usize) -> bool
+    ensures { λ r. ⌜ r ≡ backward i place ⌝ }
+{
+    let k = rules::kind_of(i);
+    let l = committing::label_of(i) as usize;
+    ((k == 4) | (k == 5)) & (l <= place)
+}
+
+// Whether an instruction of processor p may lead back.
+pub fn turns_back(c: Case, p: usize) -> bool
+    requires { ⌜ Fit c × (p < 4) ⌝ }
+    ensures { λ r. ⌜ r ≡ someBelow (countOf c p) (λ i. backward (instrAt c p i) i) ⌝ }
+{
+    let top = words::wide(c.counts[p]);
+    let mut found = false;
+    let mut i: usize = 0;
+    while i < top {
+        let s = c.code[12 * p + i];
+        let x = s.instr;
+        let b = leads_back(x, i);
+        found = b | found;
+        i += 1;
+    }
+    found
+}
+
+// Whether every label of the case lies past its own instruction.
+pub fn forward(c: Case) -> bool
+    requires { ⌜ Fit c ⌝ }
+    ensures { λ r. ⌜ r ≡ isForward c ⌝ }
+{
+    let top = words::wide(c.procs);
+    let mut found = false;
+    let mut p: usize = 0;
+    while p < top {
+        let b = turns_back(c, p);
+        found = b | found;
+        p += 1;
+    }
+    !found
+}
+
+// Whether the step at position j is spent.
+pub fn is_spent(spent: &[u64; 50], j: usize) -> bool
+    requires { ⌜ j < 3200 ⌝ }
+    ensures { λ r. ⌜ r ≡ spentBy (now (spent .entry)) (keyAt j) ⌝ }
+{
+    let w = j / 64;
+    let e = j % 64;
+    let here = words::has(spent[w], e);
+    if w < 48 {
+        let lone = words::has(spent[48], w);
+        return here | ((e == 0) & lone);
+    }
+    if w == 48 {
+        if e < 48 {
+            let first = words::has(spent[e], 0);
+            return first | here;
+        }
+    }
+    here
+}
+
+// The step at position j is spent too.
+pub fn note(spent: [u64; 50], j: usize) -> [u64; 50]
+    requires { ⌜ (j < 3200) × (length spent ≡ 50) ⌝ }
+    ensures { λ r. ⌜ Noted spent j r ⌝ }
+{
+    let w = j / 64;
+    let bit = words::one(j % 64);
+    let mut more = spent;
+    more[w] = more[w] | bit;
+    more
+}
+
+// The set x without what it has in common with y.
+pub fn minus(x: u64, y: u64) -> u64
+    ensures { λ r. ⌜ ((a : ℕ) → inSet r a ≡ (inSet x a && not (inSet y a))) ⌝ }
+{
+    x ^ (x & y)
+}
+
+// Whether both are acquires of one location.
+pub fn rivals(c: Case, acts: [Entry; 48], issued: usize, a: Entry, b: Entry) -> bool
+    requires { ⌜ (issued ≤ 48) × (length acts ≡ 48) ⌝ }
+    ensures { λ r. ⌜ ((s : State) → Acts c issued acts s → r ≡ areRivals s (shownEntry c a) (shownEntry c b)) ⌝ }
+{
+    let i = a.instr;
+    if rules::kind_of(i) != 6 {
+        return false;
+    }
+    let i = b.instr;
+    if rules::kind_of(i) != 6 {
+        return false;
+    }
+    let x = committing::input(c, acts, issued, a.first);
+    let y = committing::input(c, acts, issued, b.first);
+    x == y
+}
+
+// The acquires of the location that action e acquires.
+pub fn woken(c: Case, acts: [Entry; 48], issued: usize, e: Entry) -> u64
+    requires { ⌜ (issued ≤ 48) × (length acts ≡ 48) ⌝ }
+    ensures { λ r. ⌜ ((s : State) → Acts c issued acts s → SetOf issued (λ k. areRivals s (shownEntry c e) (s .actions k)) r) ⌝ }
+{
+    let mut items: u64 = 0;
+    let mut k: usize = 0;
+    while k < issued {
+        let b = acts[k];
+        let test = rivals(c, acts, issued, e, b);
+        items = orders::with(items, k, test);
+        k += 1;
+    }
+    items
+}
+
+// The word, or nothing.
+pub fn word_unless(x: u64, gone: bool) -> u64
+    ensures { λ r. ⌜ ((a : ℕ) → inSet r a ≡ (inSet x a && not gone)) ⌝ }
+{
+    if gone {
+        return 0;
+    }
+    x
+}
+
+// The words without the commits of the actions of a set.
+pub fn cleared(spent: [u64; 50], gone: u64) -> [u64; 50]
+    requires { ⌜ length spent ≡ 50 ⌝ }
+    ensures { λ r. ⌜ Cleared spent gone 48 r ⌝ }
+{
+    let mut less = spent;
+    less[48] = minus(less[48], gone);
+    let mut k: usize = 0;
+    while k < 48 {
+        let test = words::has(gone, k);
+        less[k] = word_unless(less[k], test);
+        k += 1;
+    }
+    less
+}
+
+// The processors of a set whose issues stay spent when p issues.
+pub fn still_spent(x: u64, issued: usize, p: usize) -> u64
+    requires { ⌜ (issued ≤ 48) × (p < 64) ⌝ }
+    ensures { λ r. ⌜ ((q : ℕ) → inSet r q ≡ (inSet x q && not (eqb q p || leb 48 (suc issued)))) ⌝ }
+{
+    if 48 <= issued + 1 {
+        return 0;
+    }
+    let bit = words::one(p);
+    minus(x, bit)
+}
+
+// The action that the step at position j commits.
+pub fn action_at(j: usize) -> usize
+    ensures { λ r. ⌜ r ≡ cond (ltb (j / 64) 48) (j / 64) (j % 64) ⌝ }
+{
+    if j / 64 < 48 {
+        return j / 64;
+    }
+    j % 64
+}
+
+// What stays spent when the step at position j is taken.
+pub fn rest(c: Case, m: Machine, spent: [u64; 50], j: usize) -> [u64; 50]
+    requires { ⌜ Valid c m × (j < 3200) × (length spent ≡ 50) × (stepCode c (shown c m) (stepBy (shown c m) (keyAt j)) ≡ 0) ⌝ }
+    ensures { λ r. ⌜ RestedBy (shown c m) (stepBy (shown c m) (keyAt j)) spent r ⌝ }
+{
+    let issued = m.issued;
+    let mut less = spent;
+    if 49 <= j / 64 {
+        less[49] = still_spent(less[49], issued, j % 64);
+        return less;
+    }
+    let k = action_at(j);
+    if issued <= k {
+        return less;
+    }
+    let acts = m.acts;
+    let e = acts[k];
+    let i = e.instr;
+    if rules::kind_of(i) != 6 {
+        return less;
+    }
+    let gone = woken(c, acts, issued, e);
+    cleared(less, gone)
+}
+
+// Whether the entry is a write to location l that has its value.
+pub fn given_at(e: Entry, l: usize) -> bool
+    ensures { λ r. ⌜ ((c : TheCase) → r ≡ (writeTo l (shownEntry c e) && not (isNone (shownEntry c e .result)))) ⌝ }
+{
+    let w = committing::writes_at(e, l);
+    w & e.done
+}
+
+// The write items of location l.
+pub fn write_items(acts: [Entry; 48], issued: usize, l: usize) -> u64
+    requires { ⌜ (issued ≤ 48) × (length acts ≡ 48) × (l < 8) ⌝ }
+    ensures { λ r. ⌜ ((c : TheCase) (s : State) → Acts c issued acts s → SetOf (8 + issued) (writes s l) r) ⌝ }
+{
+    let mut items = words::one(l);
+    let mut k: usize = 0;
+    while k < issued {
+        let e = acts[k];
+        let test = committing::writes_at(e, l);
+        items = orders::with(items, 8 + k, test);
+        k += 1;
+    }
+    items
+}
+
+// The write items of location l that have their value.
+pub fn given_items(acts: [Entry; 48], issued: usize, l: usize) -> u64
+    requires { ⌜ (issued ≤ 48) × (length acts ≡ 48) × (l < 8) ⌝ }
+    ensures { λ r. ⌜ ((c : TheCase) (s : State) → Acts c issued acts s → SetOf (8 + issued) (givenTo c s l) r) ⌝ }
+{
+    let mut items = words::one(l);
+    let mut k: usize = 0;
+    while k < issued {
+        let e = acts[k];
+        let test = given_at(e, l);
+        items = orders::with(items, 8 + k, test);
+        k += 1;
+    }
+    items
+}
+
+// What stands before item w in the order of location l, where the test passes, else nothing.
+pub fn row_if(rows: &[u64; 448], l: usize, w: usize, test: bool) -> u64
+    requires { ⌜ (l < 8) × (w < 56) ⌝ }
+    ensures { λ r. ⌜ ((a : ℕ) → inSet r a ≡ (test && orderOf (now (rows .entry)) l a w)) ⌝ }
+{
+    if test {
+        return rows[56 * l + w];
+    }
+    0
+}
+
+// What stands before an item of a set, all below n, that stands before item i.
+pub fn covered(rows: &[u64; 448], l: usize, items: u64, n: usize, i: usize) -> u64
+    requires { ⌜ (l < 8) × (n ≤ 56) ⌝ }
+    ensures { λ r. ⌜ ((P : ℕ → Bool) → SetOf n P items → Covers (orderOf (now (rows .entry)) l) n P i r) ⌝ }
+{
+    let mut mask: u64 = 0;
+    let mut w: usize = 0;
+    while w < n {
+        let inside = words::has(items, w);
+        let near = orders::before(rows, l, w, i);
+        let more = row_if(rows, l, w, inside & near);
+        mask = more | mask;
+        w += 1;
+    }
+    mask
+}
+
+// The items of a set, all below n, that are not gone and do not stand after item i.
+pub fn uncovered(rows: &[u64; 448], l: usize, items: u64, gone: u64, n: usize, i: usize) -> u64
+    requires { ⌜ (l < 8) × (n ≤ 56) ⌝ }
+    ensures { λ r. ⌜ SetOf n (λ e. inSet items e && not (inSet gone e) && not (orderOf (now (rows .entry)) l i e)) r ⌝ }
+{
+    let mut seen: u64 = 0;
+    let mut e: usize = 0;
+    while e < n {
+        let inside = words::has(items, e);
+        let hidden = words::has(gone, e);
+        let late = orders::before(rows, l, i, e);
+        seen = orders::with(seen, e, (inside & !hidden) & !late);
+        e += 1;
+    }
+    seen
+}
+
+// The items that are visible to the read item i of location l.
+pub fn visible_items(rows: &[u64; 448], acts: [Entry; 48], issued: usize, l: usize, i: usize) -> u64
+    requires { ⌜ (issued ≤ 48) × (length acts ≡ 48) × (l < 8) ⌝ }
+    ensures { λ r. ⌜ ((c : TheCase) (s : State) → Acts c issued acts s → s .orders ≡ orderOf (now (rows .entry)) → (e : ℕ) → inSet r e ≡ visible c s l i e) ⌝ }
+{
+    let items = write_items(acts, issued, l);
+    let given = given_items(acts, issued, l);
+    let gone = covered(rows, l, items, 8 + issued, i);
+    uncovered(rows, l, given, gone, 8 + issued, i)
+}
+
+// Whether the entry is a queued read of a present processor.
+pub fn read_queued(e: Entry, procs: u8) -> bool
+    ensures { λ r. ⌜ ((c : TheCase) → r ≡ queuedRead procs (shownEntry c e)) ⌝ }
+{
+    let i = e.instr;
+    let k = rules::kind_of(i);
+    (k == 1) & (!e.done & !(procs <= e.proc))
+}
+
+// Whether action k is a read that may be committed from every visible item.
+pub fn read_ready(c: Case, acts: [Entry; 48], issued: usize, k: usize) -> bool
+    requires { ⌜ (issued ≤ 48) × (length acts ≡ 48) × (k < issued) ⌝ }
+    ensures { λ r. ⌜ ((s : State) → Acts c issued acts s → r ≡ readyRead c s k) ⌝ }
+{
+    let e = acts[k];
+    if !read_queued(e, c.procs) {
+        return false;
+    }
+    let p = words::wide(e.proc);
+    let h = committing::held(acts, k, p, 1, e.loc);
+    let u = committing::unready(c, acts, issued, e);
+    !(h | u)
+}
+
+// The items that the commit of read k may name; none of another action.
+pub fn sources(c: Case, rows: &[u64; 448], acts: [Entry; 48], issued: usize, k: usize) -> u64
+    requires { ⌜ (issued ≤ 48) × (length acts ≡ 48) × (k < issued) × Entries issued acts ⌝ }
+    ensures { λ r. ⌜ ((s : State) → Acts c issued acts s → s .orders ≡ orderOf (now (rows .entry)) → (e : ℕ) → inSet r e ≡ opens c s k e) ⌝ }
+{
+    if !read_ready(c, acts, issued, k) {
+        return 0;
+    }
+    let e = acts[k];
+    let l = words::wide(e.loc);
+    visible_items(rows, acts, issued, l, 8 + k)
+}
+
+// Whether the commit of action k, from item 0, is accepted.
+pub fn may_commit<'a>(
+    c: Case,
+    rows: &'a [u64; 448],
+    holders: &'a [u8; 8],
+    acts: [Entry; 48],
+    issued: usize,
+    k: usize,
+) -> bool
+    requires { ⌜ (issued ≤ 48) × (length acts ≡ 48) × (length (now holders) ≡ 8) × (k < issued) × Entries issued acts × (c .procs ≤ 4) ⌝ }
+    ensures { λ r. ⌜ ((s : State) → Acts c issued acts s → s .orders ≡ orderOf (now (rows .entry)) → s .holders ≡ (λ l. holderOf (getD (now (holders .entry)) l 0)) → r ≡ eqb (stepCode c s (commit (s .actions k .proc) k 0)) 0) ⌝ }
+{
+    let e = acts[k];
+    let p = words::wide(e.proc);
+    if words::wide(c.procs) <= p {
+        return false;
+    }
+    committing::commit_code(c, acts, rows, holders, issued, p, k, 0) == 0
+}
+
+// Whether action k is no read and its commit is accepted.
+pub fn lone_open<'a>(
+    c: Case,
+    rows: &'a [u64; 448],
+    holders: &'a [u8; 8],
+    acts: [Entry; 48],
+    issued: usize,
+    k: usize,
+) -> bool
+    requires { ⌜ (issued ≤ 48) × (length acts ≡ 48) × (length (now holders) ≡ 8) × (k < issued) × Entries issued acts × (c .procs ≤ 4) ⌝ }
+    ensures { λ r. ⌜ ((s : State) → Acts c issued acts s → s .orders ≡ orderOf (now (rows .entry)) → s .holders ≡ (λ l. holderOf (getD (now (holders .entry)) l 0)) → r ≡ opens c s 48 k) ⌝ }
+{
+    let e = acts[k];
+    let i = e.instr;
+    if rules::kind_of(i) == 1 {
+        return false;
+    }
+    may_commit(c, rows, holders, acts, issued, k)
+}
+
+// The actions that are no reads and whose commits are accepted.
+pub fn commits<'a>(
+    c: Case,
+    rows: &'a [u64; 448],
+    holders: &'a [u8; 8],
+    acts: [Entry; 48],
+    issued: usize,
+) -> u64
+    requires { ⌜ (issued ≤ 48) × (length acts ≡ 48) × (length (now holders) ≡ 8) × Entries issued acts × (c .procs ≤ 4) ⌝ }
+    ensures { λ r. ⌜ ((s : State) → Acts c issued acts s → s .orders ≡ orderOf (now (rows .entry)) → s .holders ≡ (λ l. holderOf (getD (now (holders .entry)) l 0)) → SetOf issued (opens c s 48) r) ⌝ }
+{
+    let mut items: u64 = 0;
+    let mut k: usize = 0;
+    while k < issued {
+        let test = lone_open(c, rows, holders, acts, issued, k);
+        items = orders::with(items, k, test);
+        k += 1;
+    }
+    items
+}
+
+// Whether processor p may issue.
+pub fn may_issue<'a>(
+    c: Case,
+    places: &'a [u8; 4],
+    names: &'a [u8; 32],
+    acts: [Entry; 48],
+    issued: usize,
+    p: usize,
+) -> bool
+    requires { ⌜ Fit c × (issued ≤ 48) × (length acts ≡ 48) × (length (now names) ≡ 32) × (p < 4) ⌝ }
+    ensures { λ r. ⌜ ((s : State) → Acts c issued acts s → s .places ≡ (λ q. placeOf (getD (now (places .entry)) q 0)) → s .names ≡ namesOf c (now (names .entry)) → r ≡ opens c s 49 p) ⌝ }
+{
+    if words::wide(c.procs) <= p {
+        return false;
+    }
+    issuing::issue_code(c, places, names, acts, issued, p) == 0
+}
+
+// The processors that may issue.
+pub fn issues<'a>(
+    c: Case,
+    places: &'a [u8; 4],
+    names: &'a [u8; 32],
+    acts: [Entry; 48],
+    issued: usize,
+) -> u64
+    requires { ⌜ Fit c × (issued ≤ 48) × (length acts ≡ 48) × (length (now names) ≡ 32) ⌝ }
+    ensures { λ r. ⌜ ((s : State) → Acts c issued acts s → s .places ≡ (λ q. placeOf (getD (now (places .entry)) q 0)) → s .names ≡ namesOf c (now (names .entry)) → SetOf 4 (opens c s 49) r) ⌝ }
+{
+    let mut items: u64 = 0;
+    let mut p: usize = 0;
+    while p < 4 {
+        let test = may_issue(c, places, names, acts, issued, p);
+        items = orders::with(items, p, test);
+        p += 1;
+    }
+    items
+}
+
+// The accepted steps of word w.
+pub fn open_word<'a>(
+    c: Case,
+    places: &'a [u8; 4],
+    names: &'a [u8; 32],
+    holders: &'a [u8; 8],
+    rows: &'a [u64; 448],
+    acts: [Entry; 48],
+    issued: usize,
+    w: usize,
+) -> u64
+    requires { ⌜ Valid c (machineOf issued (now places) (now names) (now holders) acts (now rows)) × (w < 50) ⌝ }
+    ensures { λ r. ⌜ ((e : ℕ) → e < 64 → inSet r e ≡ opens c (shown c (machineOf issued (now (places .entry)) (now (names .entry)) (now (holders .entry)) acts (now (rows .entry)))) w e) ⌝ }
+{
+    if w < 48 {
+        if w < issued {
+            return sources(c, rows, acts, issued, w);
+        }
+        return 0;
+    }
+    if w == 48 {
+        return commits(c, rows, holders, acts, issued);
+    }
+    issues(c, places, names, acts, issued)
+}
+
+// The first position from j on, before `end`, whose bit is set and that is not spent, else `end`.
+pub fn first_fresh(word: u64, spent: &[u64; 50], j: usize, end: usize) -> usize
+    requires { ⌜ (j ≤ end) × (end ≤ 3200) ⌝ }
+    ensures { λ r. ⌜ FirstFresh word (now (spent .entry)) j end r ⌝ }
+{
+    if word == 0 {
+        return end;
+    }
+    let mut i = j;
+    while i < end {
+        if words::has(word, i % 64) {
+            if !is_spent(spent, i) {
+                return i;
+            }
+        }
+        i += 1;
+    }
+    end
+}
+
+// The end of the word that has position j, and at most `to`.
+pub fn word_end(j: usize, to: usize) -> usize
+    requires { ⌜ (j < to) × (to ≤ 3200) ⌝ }
+    ensures { λ r. ⌜ (j < r) × (r ≤ to) × ((i : ℕ) → j ≤ i → i < r → i / 64 ≡ j / 64) ⌝ }
+{
+    let end = 64 * (j / 64) + 64;
+    if to < end {
+        return to;
+    }
+    end
+}
+
+// The first position from `at` on whose step is accepted and not spent, or `to` where there is none before it.
+pub fn next_step(c: Case, m: Machine, spent: &[u64; 50], at: usize, to: usize) -> usize
+    requires { ⌜ Valid c m × (at ≤ to) × (to ≤ 3200) × (length (now spent) ≡ 50) ⌝ }
+    ensures { λ r. ⌜ NextAt c (shown c m) (now (spent .entry)) at to r ⌝ }
+{
+    let acts = m.acts;
+    let issued = m.issued;
+    let mut j = at;
+    while j < to {
+        let end = word_end(j, to);
+        let word = open_word(
+            c,
+            &m.places,
+            &m.names,
+            &m.holders,
+            &m.rows,
+            acts,
+            issued,
+            j / 64,
+        );
+        let r = first_fresh(word, spent, j, end);
+        if r < end {
+            return r;
+        }
+        j = end;
+    }
+    to
+}
+
+// The first action of a sure kind whose commit is accepted, else 48.
+pub fn sure_commit<'a>(
+    c: Case,
+    rows: &'a [u64; 448],
+    holders: &'a [u8; 8],
+    acts: [Entry; 48],
+    issued: usize,
+) -> usize
+    requires { ⌜ (issued ≤ 48) × (length acts ≡ 48) × (length (now holders) ≡ 8) × Entries issued acts × (c .procs ≤ 4) ⌝ }
+    ensures { λ r. ⌜ ((s : State) → Acts c issued acts s → s .orders ≡ orderOf (now (rows .entry)) → s .holders ≡ (λ l. holderOf (getD (now (holders .entry)) l 0)) → SureCommit c s r) ⌝ }
+{
+    let mut k: usize = 0;
+    while k < issued {
+        let e = acts[k];
+        let i = e.instr;
+        let q = rules::kind_of(i);
+        if (q != 1) & (q != 6) {
+            if may_commit(c, rows, holders, acts, issued, k) {
+                return k;
+            }
+        }
+        k += 1;
+    }
+    48
+}
+
+// The first processor that may issue, else 4.
+pub fn issuer<'a>(
+    c: Case,
+    places: &'a [u8; 4],
+    names: &'a [u8; 32],
+    acts: [Entry; 48],
+    issued: usize,
+) -> usize
+    requires { ⌜ Fit c × (issued ≤ 48) × (length acts ≡ 48) × (length (now names) ≡ 32) ⌝ }
+    ensures { λ r. ⌜ ((s : State) → Acts c issued acts s → s .places ≡ (λ q. placeOf (getD (now (places .entry)) q 0)) → s .names ≡ namesOf c (now (names .entry)) → r < 4 → opens c s 49 r ≡ true) ⌝ }
+{
+    let mut p: usize = 0;
+    while p < 4 {
+        if may_issue(c, places, names, acts, issued, p) {
+            return p;
+        }
+        p += 1;
+    }
+    4
+}
+
+// The position of an accepted sure step, with n steps to go, or 3200 where there is none.
+pub fn sure_step(c: Case, m: Machine, n: usize, ahead: bool) -> usize
+    requires { ⌜ Valid c m × (ahead ≡ isForward c) × (n ≤ 96) ⌝ }
+    ensures { λ r. ⌜ SureAt c n (shown c m) r ⌝ }
+{
+    let acts = m.acts;
+    let issued = m.issued;
+    let k = sure_commit(c, &m.rows, &m.holders, acts, issued);
+    if k < 48 {
+        return 3072 + k;
+    }
+    if ahead | (issued + n <= 48) {
+        let p = issuer(c, &m.places, &m.names, acts, issued);
+        if p < 4 {
+            return 3136 + p;
+        }
+    }
+    3200
+}
+
+// Whether every place counter is at its processor's count.
+pub fn ended(c: Case, places: &[u8; 4]) -> bool
+    requires { ⌜ Fit c × (length (now places) ≡ 4) ⌝ }
+    ensures { λ r. ⌜ ((s : State) → s .places ≡ (λ q. placeOf (getD (now (places .entry)) q 0)) → r ≡ hasEnded c s) ⌝ }
+{
+    let top = words::wide(c.procs);
+    let mut all = true;
+    let mut p: usize = 0;
+    while p < top {
+        let there = places[p] == c.counts[p];
+        all = all & there;
+        p += 1;
+    }
+    all
+}
+
+// Whether the entry is a queued write to location l.
+pub fn write_queued(e: Entry, l: usize) -> bool
+    ensures { λ r. ⌜ ((c : TheCase) → r ≡ pending l (shownEntry c e)) ⌝ }
+{
+    let w = committing::writes_at(e, l);
+    !e.done & w
+}
+
+// Whether a write to location l is queued.
+pub fn write_pending(acts: [Entry; 48], issued: usize, l: usize) -> bool
+    requires { ⌜ (issued ≤ 48) × (length acts ≡ 48) ⌝ }
+    ensures { λ r. ⌜ ((c : TheCase) (s : State) → Acts c issued acts s → r ≡ someBelow (s .count) (λ j. pending l (s .actions j))) ⌝ }
+{
+    let mut found = false;
+    let mut k: usize = 0;
+    while k < issued {
+        let e = acts[k];
+        let w = write_queued(e, l);
+        found = w | found;
+        k += 1;
+    }
+    found
+}
+
+// Whether read k has a source, and no write to its location is queued.
+pub fn settled_read(c: Case, rows: &[u64; 448], acts: [Entry; 48], issued: usize, k: usize) -> bool
+    requires { ⌜ (issued ≤ 48) × (length acts ≡ 48) × (k < issued) × Entries issued acts ⌝ }
+    ensures { λ r. ⌜ ((s : State) → Acts c issued acts s → s .orders ≡ orderOf (now (rows .entry)) → r ≡ true → SettledRead c s k) ⌝ }
+{
+    if sources(c, rows, acts, issued, k) == 0 {
+        return false;
+    }
+    let e = acts[k];
+    let l = words::wide(e.loc);
+    !write_pending(acts, issued, l)
+}
+
+// The first read with a source to whose location no write is queued, else 48.
+pub fn first_settled(c: Case, rows: &[u64; 448], acts: [Entry; 48], issued: usize) -> usize
+    requires { ⌜ (issued ≤ 48) × (length acts ≡ 48) × Entries issued acts ⌝ }
+    ensures { λ r. ⌜ (r ≤ 48) × ((s : State) → Acts c issued acts s → s .orders ≡ orderOf (now (rows .entry)) → r < 48 → SettledRead c s r) ⌝ }
+{
+    let mut k: usize = 0;
+    while k < issued {
+        if settled_read(c, rows, acts, issued, k) {
+            return k;
+        }
+        k += 1;
+    }
+    48
+}
+
+// The number of a quiet read that is accepted from some item, or 48 where there is none.
+pub fn quiet_read(c: Case, m: Machine) -> usize
+    requires { ⌜ Valid c m ⌝ }
+    ensures { λ r. ⌜ QuietAt c (shown c m) r × (r ≤ 48) ⌝ }
+{
+    if !ended(c, &m.places) {
+        return 48;
+    }
+    let acts = m.acts;
+    let issued = m.issued;
+    first_settled(c, &m.rows, acts, issued)
+}
+
+// The item that the step at position j names.
+pub fn source_at(j: usize) -> usize
+    ensures { λ r. ⌜ r ≡ cond (ltb (j / 64) 48) (j % 64) 0 ⌝ }
+{
+    if j / 64 < 48 {
+        return j % 64;
+    }
+    0
+}
+
+// The machine after the step at position j, which is accepted.
+pub fn take(c: Case, m: Machine, j: usize) -> Machine
+    requires { ⌜ Valid c m × (j < 3200) × (stepCode c (shown c m) (stepBy (shown c m) (keyAt j)) ≡ 0) ⌝ }
+    ensures { λ r. ⌜ (shown c r ≡ after c (shown c m) (stepBy (shown c m) (keyAt j))) × Valid c r ⌝ }
+{
+    if 49 <= j / 64 {
+        return issuing::issue(c, m, j % 64);
+    }
+    let k = action_at(j);
+    let e = m.acts[k];
+    let p = words::wide(e.proc);
+    let src = source_at(j);
+    committing::commit(c, m, p, k, src)
+}

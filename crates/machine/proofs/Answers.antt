@@ -39,21 +39,19 @@ module _ (c : Case) (s : State) where
   row p = concatMap (λ k. registerBytes (registerOf c s p k)) (counting 0 8)
 
   row-long : (p : ℕ) → length (row p) ≡ 24
-  row-long p = blocks-long (λ k. registerBytes (registerOf c s p k)) 3 (λ k. three (registerOf c s p k)) 0 8
+  row-long p = blocks-long (λ k. registerBytes (registerOf c s p k)) 3 (λ k. three (registerOf c s p k)) 8
 
   pub registers-long : length (registers c s) ≡ 96
   unfolding registers
-  registers-long = blocks-long row 24 row-long 0 4
+  registers-long = blocks-long row 24 row-long 4
 
   pub register-at : (i : ℕ) → i < 96 → getD (registers c s) i 0 ≡ getD (registerBytes (registerOf c s (i / 3 / 8) (i / 3 % 8))) (i % 3) 0
   unfolding registers
   register-at i h =
       let q : i ≡ 24 * (i / 3 / 8) + (3 * (i / 3 % 8) + i % 3) = omega arith in
       ap (λ (n : ℕ). getD (concatMap row (counting 0 4)) n 0) q
-      ∙ block-at row 24 row-long 0 4 (i / 3 / 8) (3 * (i / 3 % 8) + i % 3) (omega arith) (omega arith)
-      ∙ ap (λ (p : ℕ). getD (row p) (3 * (i / 3 % 8) + i % 3) 0) (omega arith)
-      ∙ block-at (λ k. registerBytes (registerOf c s (i / 3 / 8) k)) 3 (λ k. three (registerOf c s (i / 3 / 8) k)) 0 8 (i / 3 % 8) (i % 3) (omega arith) (omega arith)
-      ∙ ap (λ (k : ℕ). getD (registerBytes (registerOf c s (i / 3 / 8) k)) (i % 3) 0) (omega arith)
+      ∙ block-at row 24 row-long 4 (i / 3 / 8) (3 * (i / 3 % 8) + i % 3) (omega arith) (omega arith)
+      ∙ block-at (λ k. registerBytes (registerOf c s (i / 3 / 8) k)) 3 (λ k. three (registerOf c s (i / 3 / 8) k)) 8 (i / 3 % 8) (i % 3) (omega arith) (omega arith)
 
   pub registers-are : (out : List ℕ) → length out ≡ 96 → ((j : ℕ) → j < 96 → getD out j 0 ≡ getD (registers c s) j 0) → out ≡ registers c s
   registers-are out long h = ext-getD 0 out (registers c s) (long ∙ sym registers-long) (λ i lt. h i (omega arith))

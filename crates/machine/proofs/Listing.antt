@@ -1,18 +1,14 @@
--- Lists by their numbers: tests over 0, 1, .., blocks of one width, an array that is filled from the start. Assumes nothing.
+-- Lists by their numbers: tests over 0, 1, .., and blocks of one width. Assumes nothing.
 use mathlib.Core.Path.{_≡_, refl, sym, _∙_, ap}
-use mathlib.Core.Logic.{⊎-elim}
 use mathlib.Core.Bool.{Bool, true, false, _&&_}
-use mathlib.Core.List.{List, _++_}
+use mathlib.Core.List.{List}
 use Prim.Native.Nat.{ℕ, zero, suc, _+_, _*_, _<_}
-use native.Mathlib.Nat.{add-zero, mul-zero}
+use native.Mathlib.Nat.{add-zero}
 use native.Mathlib.Numerals.{add-one}
 use native.Mathlib.Omega.{arith}
-use lib.Dec.{eqb}
-use lib.ListN.{length, getD, set, length-append, List·getD-append}
-use lib.Seq.{getD-append-add, getD-set-same, getD-set-other}
-use borrow.Author.Tests.{eqb-true, eqb-false}
+use lib.ListN.{length, getD}
 use Rattle.words.specs.Small.{all, counting, concatMap}
-use Rattle.words.proofs.Bools.{decide}
+use Rattle.words.proofs.Lists.{concatMap-length, concatMap-at}
 
 and-assoc : (a b c : Bool) → (a && (b && c)) ≡ ((a && b) && c)
 and-assoc true b c = refl
@@ -30,35 +26,22 @@ all-from f a (suc n) = ap (λ (b : Bool). f a && b) (all-from f (suc a) n ∙ ap
 pub all-next : (f : ℕ → Bool) (n : ℕ) (b h : Bool) → b ≡ all f (counting 0 n) → h ≡ f n → (b && h) ≡ all f (counting 0 (n + 1))
 all-next f n b h hb hh = rw (add-one, hb, hh) (sym (all-from f 0 n ∙ ap (λ (k : ℕ). all f (counting 0 n) && f k) (omega arith)))
 
-module _ (f : ℕ → List ℕ) (w : ℕ) (wide : (k : ℕ) → length (f k) ≡ w) where
-  pub blocks-long : (a n : ℕ) → length (concatMap f (counting a n)) ≡ w * n
-  blocks-long a zero = sym (mul-zero w)
-  blocks-long a (suc n) = length-append (f a) (concatMap f (counting (suc a) n)) ∙ omega (arith, wide a, blocks-long (suc a) n, times w n)
-    where
-      times : (w n : ℕ) → w * suc n ≡ w + w * n
-      times w n = native.Mathlib.Nat.mul-suc w n ∙ omega arith
+counting-long : (k n : ℕ) → length (counting k n) ≡ n
+counting-long k zero = refl
+counting-long k (suc n) = ap suc (counting-long (suc k) n)
 
-  pub block-at : (a n k j : ℕ) → k < n → j < w → getD (concatMap f (counting a n)) (w * k + j) 0 ≡ getD (f (a + k)) j 0
-  block-at a zero k j lt low = absurd (omega arith)
-  block-at a (suc n) zero j lt low =
-      ap (λ (i : ℕ). getD (f a ++ concatMap f (counting (suc a) n)) i 0) (omega (arith, mul-zero w))
-      ∙ List·getD-append (f a) (concatMap f (counting (suc a) n)) 0 j (omega (arith, wide a))
-      ∙ ap (λ (i : ℕ). getD (f i) j 0) (sym (add-zero a))
-  block-at a (suc n) (suc k) j lt low =
-      ap (λ (i : ℕ). getD (f a ++ concatMap f (counting (suc a) n)) i 0) (omega (arith, wide a, native.Mathlib.Nat.mul-suc w k))
-      ∙ getD-append-add (f a) (concatMap f (counting (suc a) n)) (w * k + j) 0
-      ∙ block-at (suc a) n k j (omega arith) low
-      ∙ ap (λ (i : ℕ). getD (f i) j 0) (omega arith)
+counting-at : (k n i : ℕ) → i < n → getD (counting k n) i 0 ≡ k + i
+counting-at k zero i h = absurd (omega arith)
+counting-at k (suc n) zero h = sym (add-zero k)
+counting-at k (suc n) (suc i) h = counting-at (suc k) n i (omega arith) ∙ omega arith
 
--- one place more of an array
-pub set-next : (out target : List ℕ) (i b : ℕ) → i < length out → ((j : ℕ) → j < i → getD out j 0 ≡ getD target j 0) → b ≡ getD target i 0 → (j : ℕ) → j < i + 1 → getD (set out i b) j 0 ≡ getD target j 0
-set-next out target i b lt h e j low = ⊎-elim same other (decide (eqb j i))
-  where
-    same : eqb j i ≡ true → getD (set out i b) j 0 ≡ getD target j 0
-    same k = rw (eqb-true j i k) (getD-set-same out i b 0 lt ∙ e)
+-- the blocks that f gives of 0, 1, .., n - 1
+module _ (f : ℕ → List ℕ) (w : ℕ) (wide : (k : ℕ) → length (f k) ≡ w) (n : ℕ) where
+  pub blocks-long : length (concatMap f (counting 0 n)) ≡ w * n
+  blocks-long = concatMap-length f w wide (counting 0 n) ∙ ap (λ (m : ℕ). w * m) (counting-long 0 n)
 
-    other : eqb j i ≡ false → getD (set out i b) j 0 ≡ getD target j 0
-    other k = getD-set-other out i j b 0 (eqb-false j i k) ∙ h j (below (eqb-false j i k))
-      where
-        below : (j ≡ i → ⊥) → j < i
-        below n = omega arith
+  pub block-at : (k j : ℕ) → k < n → j < w → getD (concatMap f (counting 0 n)) (w * k + j) 0 ≡ getD (f k) j 0
+  block-at k j lt low =
+      let q : k < length (counting 0 n) = omega (arith, counting-long 0 n) in
+      let e : getD (counting 0 n) k 0 ≡ k = counting-at 0 n k lt ∙ omega arith in
+      concatMap-at f w wide (counting 0 n) k j 0 0 q low ∙ ap (λ (i : ℕ). getD (f i) j 0) e

@@ -15,7 +15,7 @@ use Rattle.words.proofs.Sets.{has-zero}
 use Rattle.cases.specs.declared.Case.{Case}
 use Rattle.cases.specs.Case.{presetOf}
 use Rattle.rules.specs.State.{start, unissued, initial}
-use Rattle.rules.proofs.Table.{all-below}
+use Rattle.words.proofs.Lists.{all-below}
 use Rattle.orders.specs.Rows.{orderOf}
 use Rattle.machine.specs.declared.Entry.{Entry}
 use Rattle.machine.specs.declared.Machine.{Machine}

@@ -9,6 +9,7 @@ use lib.Dec.{eqb}
 use lib.ListN.{getD}
 use Rattle.words.specs.Small.{all, counting}
 use Rattle.words.proofs.Bools.{and-both}
+use Rattle.words.proofs.Lists.{all-below}
 use Rattle.rules.specs.Kinds.{heldBy}
 
 abbrev table : List (List ℕ)
@@ -45,15 +46,6 @@ entry k q same = agree (says (getD (getD table k []) q 0) same) (heldBy k q same
 whole : all (λ k. all (λ q. entry k q true && entry k q false) (counting 0 8)) (counting 0 8) ≡ true
 unfolding heldBy
 whole = refl
-
-all-from : (f : ℕ → Bool) (i n : ℕ) → all f (counting i n) ≡ true → (k : ℕ) → k < n → f (i + k) ≡ true
-all-from f i zero h k lt = absurd (omega arith)
-all-from f i (suc n) h zero lt = ap f (add-zero i) ∙ and-both (f i) _ h .0
-all-from f i (suc n) h (suc k) lt = ap f (omega arith) ∙ all-from f (suc i) n (and-both (f i) _ h .1) k (omega arith)
-
--- a test that passes at each of 0, 1, .., n - 1 passes at k
-pub all-below : (f : ℕ → Bool) (n : ℕ) → all f (counting 0 n) ≡ true → (k : ℕ) → k < n → f k ≡ true
-all-below f n h k lt = ap f (omega arith) ∙ all-from f 0 n h k lt
 
 pub table-rule : (k q : ℕ) (same : Bool) → k < 8 → q < 8 → says (getD (getD table k []) q 0) same ≡ heldBy k q same
 table-rule k q same hk hq = pick same

@@ -16,6 +16,5 @@ pub mod Firm
 pub mod Spent
 pub mod Search
 pub mod Sweep
-pub mod Rows
 pub mod Loop
 pub mod Moves

@@ -1,10 +1,7 @@
 -- Spent steps: steps whose branch a search has been through, so that it may leave them out later on. Assumes nothing.
 use mathlib.Core.Bool.{Bool, true, false, not, _&&_, _||_}
-use mathlib.Core.List.{List}
 use Prim.Native.Nat.{ℕ, suc}
 use lib.Dec.{eqb, leb}
-use lib.ListN.{getD}
-use Rattle.words.specs.Sets.{has}
 use Rattle.rules.specs.Kinds.{reading, acquiring}
 use Rattle.rules.specs.State.{State, Action, kindOf, inputOf}
 use Rattle.rules.specs.Step.{Step, issue, commit, neither}
@@ -58,8 +55,3 @@ wakes s neither a = false
 -- What is spent and is not woken by the step.
 abbrev pub unwoken : State → Step → Spent → Spent
 unwoken s t sp a = sp a && not (wakes s t a)
-
--- What is spent as code holds it: for action k one word, bit e for item e, and one word for issues, bit p for processor p.
-abbrev pub spentBy : List ℕ → ℕ → Spent
-spentBy rows issues (taking k e) = has (getD rows k 0) e
-spentBy rows issues (issuing p) = has issues p

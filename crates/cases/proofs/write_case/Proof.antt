@@ -1,5 +1,5 @@
--- The buffer agrees with the contents of the case below 510, so its faults and its check are theirs (`Agree`, `Written`).
-use Rattle.cases.proofs.Written.{no-room, refused, accepted}
+-- The buffer that is sealed agrees with the contents of the case below 510 (`Written`).
+use Rattle.cases.proofs.Written.{unwritten, written-by}
 use borrow.Author.Needs.{needs}
 use Rattle.cases.proofs.write_case.Statement.{statement}
 use Rattle.cases.proofs.write_case.Tie as tie
@@ -12,45 +12,27 @@ same-length c = search needs
 
 returns : tie.Need-returns
 returns c =
-    let at = c .before .before .before .before in
+    let clear = c .before .before in
+    let at = clear .before .before in
     let a = at .before .before .args in
-    no-room (a .case) (a .block .now) (c .before .before .clear .last .0) (at .if1 .taken) (c .before .before .clear .ensures)
+    unwritten (a .case) (a .block .now) (clear .clear .last .0) (at .if1 .taken) (clear .clear .ensures)
 
 fill-requires : tie.Need-fill-requires
 fill-requires c κs = search needs
 
-judge-requires : tie.Need-judge-requires
-judge-requires c κs = search needs
-
-clear-requires-2 : tie.Need-clear-requires-2
-clear-requires-2 c κs = search needs
+seal-requires : tie.Need-seal-requires
+seal-requires c κs = search needs
 
 same-length-2 : tie.Need-same-length-2
 same-length-2 c = search needs
 
 returns-2 : tie.Need-returns-2
 returns-2 c =
-    let clear = c .before .before in
-    let judge = clear .before .before .before in
-    let fill = judge .before .before .before .before in
+    let seal = c .before .before in
+    let fill = seal .before .before .before .before in
     let at = fill .before .before in
     let a = at .before .before .args in
-    refused (a .case) (a .block .now) (fill .fill .last .1 .0) (at .if1 .left) (fill .fill .ensures .1) (fill .fill .ensures .0) (judge .judge .result) (clear .clear2 .last .0) (judge .judge .ensures) (clear .before .before .if2 .taken) (clear .clear2 .ensures)
-
-sign-requires : tie.Need-sign-requires
-sign-requires c κs = search needs
-
-same-length-3 : tie.Need-same-length-3
-same-length-3 c = search needs
-
-returns-3 : tie.Need-returns-3
-returns-3 c =
-    let sign = c .before .before in
-    let judge = sign .before .before .before in
-    let fill = judge .before .before .before .before in
-    let at = fill .before .before in
-    let a = at .before .before .args in
-    accepted (a .case) (a .block .now) (fill .fill .last .1 .0) (at .if1 .left) (fill .fill .ensures .1) (fill .fill .ensures .0) (judge .judge .result) (sign .sign .last .0) (judge .judge .ensures) (sign .before .before .if2 .left) (sign .sign .ensures)
+    written-by (a .case) (a .block .now) (seal .seal .last .0) (seal .seal .result) (fill .fill .last .1 .0) (at .if1 .left) (fill .fill .ensures .1) (fill .fill .ensures .0) (seal .seal .ensures)
 
 pub write-case-spec : {M : Type 1} → statement M
 write-case-spec =
@@ -60,10 +42,6 @@ write-case-spec =
     same-length
     returns
     fill-requires
-    judge-requires
-    clear-requires-2
+    seal-requires
     same-length-2
-    returns-2
-    sign-requires
-    same-length-3
-    returns-3)
+    returns-2)

@@ -6,7 +6,7 @@ use lib.ListN.{length, getD, length-set}
 use Rattle.rules.specs.Result.{registerBytes, registers as registersOf}
 use Rattle.machine.specs.Shown.{shown}
 use Rattle.machine.proofs.Entries.{name-at}
-use Rattle.machine.proofs.Listing.{set-next}
+use Rattle.words.proofs.Lists.{filled-more}
 use Rattle.machine.proofs.Answers.{register-at, registers-are}
 use borrow.Author.Needs.{needs}
 use Rattle.machine.proofs.registers.Statement.{statement}
@@ -43,10 +43,11 @@ loop-again c =
     let i = at .loop .i in (
       search needs,
       length-set (at .loop .out) i _ ∙ at .loop .inv .1,
-      set-next (at .loop .out) (registersOf (a .c) (shown (a .c) (a .t2))) i (c .byte-of .result) (omega (arith, at .loop .inv .1)) (at .loop .inv .2)
+      filled-more (λ j. getD (registersOf (a .c) (shown (a .c) (a .t2))) j 0) 0 (at .loop .out) i (c .byte-of .result) (omega (arith, at .loop .inv .1))
           (c .byte-of .ensures
           ∙ ap (λ (o : Option ℕ). getD (registerBytes o) (i % 3) 0) (c .before .register .ensures (shown (a .c) (a .t2)) (record { count = refl; actions = refl }) (name-at (a .c) (a .t2 .names) (i / 3) (omega arith)))
-          ∙ sym (register-at (a .c) (shown (a .c) (a .t2)) i (omega arith))),
+          ∙ sym (register-at (a .c) (shown (a .c) (a .t2)) i (omega arith)))
+          (at .loop .inv .2),
     )
 
 returns : tie.Need-returns Inv-loop μ-loop

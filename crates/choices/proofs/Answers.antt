@@ -1,0 +1,122 @@
+-- The sure step, the quiet read and the step that is taken. Assumes nothing.
+use mathlib.Core.Path.{_≡_, refl, sym, ap, subst, _∙_}
+use mathlib.Core.Bool.{Bool, true, false, _&&_, _||_, not, false≢true}
+use Prim.Native.Nat.{ℕ, _+_, _/_, _%_, _<_, _≤_}
+use native.Mathlib.Omega.{arith}
+use native.Mathlib.Decide.{decLt}
+use lib.Dec.{eqb}
+use borrow.Author.Tests.{eqb-true, eq-eqb}
+use Rattle.words.specs.Small.{someBelow}
+use Rattle.words.proofs.Bools.{and-make}
+use Rattle.cases.specs.declared.Case.{Case}
+use Rattle.rules.specs.Kinds.{reading}
+use Rattle.rules.specs.State.{State, kindOf}
+use Rattle.rules.specs.Issue.{issued}
+use Rattle.rules.specs.Commit.{committed}
+use Rattle.rules.specs.Step.{issue, commit, stepCode, after}
+use Rattle.rules.proofs.Accepted.{can-commit, after-issue, after-commit}
+use Rattle.sure.specs.Sure.{sureKind, roomy, sure}
+use Rattle.sure.specs.Quiet.{ended, pending, quiet}
+use Rattle.sure.specs.Spent.{Key, taking, issuing, stepBy}
+use Rattle.choices.specs.Choice.{keyAt, SureAt, QuietAt}
+use Rattle.choices.specs.Opening.{SureCommit, SettledRead}
+use Rattle.choices.proofs.Spends.{key-lone, key-issue}
+use Rattle.choices.proofs.Rests.{actionAt, sourceAt, key-taken}
+use Rattle.choices.proofs.Opens.{opens-accepts}
+
+-- sure commits
+
+pub sure-test : (k q : ℕ) → k ≡ q → (not (eqb k 1) && not (eqb k 6)) ≡ sureKind q
+sure-test k q h = rw h (both (eqb q 1) (eqb q 6))
+  where
+    both : (a b : Bool) → (not a && not b) ≡ not (a || b)
+    both true b = refl
+    both false b = refl
+
+module _ (c : Case) (s : State) where
+  -- no action below n is of a sure kind with an accepted commit
+  abbrev pub NoSure : ℕ → Type 0
+  NoSure n = (k : ℕ) → k < n → sureKind (kindOf (s .actions k)) ≡ true → stepCode c s (commit (s .actions k .proc) k 0) ≡ 0 → ⊥
+
+  pub no-sure : NoSure 0
+  no-sure k h = absurd (omega arith)
+
+  module _ (n : ℕ) (N : NoSure n) where
+    next : (sureKind (kindOf (s .actions n)) ≡ true → stepCode c s (commit (s .actions n .proc) n 0) ≡ 0 → ⊥) → NoSure (n + 1)
+    next f k h p q =
+        elim (decLt k n) [
+          | yes l ↦ N k l p q
+          | no l ↦ let z : k ≡ n = omega arith in f (subst (λ (i : ℕ). sureKind (kindOf (s .actions i)) ≡ true) z p) (subst (λ (i : ℕ). stepCode c s (commit (s .actions i .proc) i 0) ≡ 0) z q)
+        ]
+
+    pub sure-refused : (b : Bool) → b ≡ eqb (stepCode c s (commit (s .actions n .proc) n 0)) 0 → b ≡ false → NoSure (n + 1)
+    sure-refused b e f = next (λ p q. absurd (false≢true (sym f ∙ e ∙ eq-eqb _ 0 q)))
+
+    pub sure-other : (b : Bool) → b ≡ sureKind (kindOf (s .actions n)) → b ≡ false → NoSure (n + 1)
+    sure-other b e f = next (λ p q. absurd (false≢true (sym f ∙ e ∙ p)))
+
+  pub sure-here : (k : ℕ) (b d : Bool) → k < 48 → b ≡ sureKind (kindOf (s .actions k)) → b ≡ true → d ≡ eqb (stepCode c s (commit (s .actions k .proc) k 0)) 0 → d ≡ true → SureCommit c s k
+  sure-here k b d h p x q y = record { found = λ l. (eqb-true _ 0 (sym q ∙ y), sym p ∙ x); none = λ l. absurd (omega arith) }
+
+  pub sure-nowhere : NoSure (s .count) → SureCommit c s 48
+  sure-nowhere N = record { found = λ l. absurd (omega arith); none = λ l. N }
+
+  -- the sure step
+
+  module _ (n k : ℕ) (S : SureCommit c s k) where
+    pub sure-lone : k < 48 → SureAt c n s (3072 + k)
+    sure-lone h =
+        let p : (3072 + k) / 64 ≡ 48 = omega arith in
+        let q : (3072 + k) % 64 ≡ k = omega arith in
+        let e : keyAt (3072 + k) ≡ taking k 0 = key-lone ((3072 + k) / 64) ((3072 + k) % 64) p ∙ ap (λ (i : ℕ). taking i 0) q in
+        record {
+          found = λ l. subst (λ (a : Key). (stepCode c s (stepBy s a) ≡ 0) × (sure c n s (stepBy s a) ≡ true)) (sym e) (S .found h);
+          none = λ l. absurd (omega arith);
+        }
+
+    pub sure-issue : (p : ℕ) → p < 4 → stepCode c s (issue p) ≡ 0 → roomy c n s ≡ true → SureAt c n s (3136 + p)
+    sure-issue p h x r =
+        let w : 49 ≤ (3136 + p) / 64 = omega arith in
+        let q : (3136 + p) % 64 ≡ p = omega arith in
+        let e : keyAt (3136 + p) ≡ issuing p = key-issue ((3136 + p) / 64) ((3136 + p) % 64) w ∙ ap issuing q in
+        record {
+          found = λ l. subst (λ (a : Key). (stepCode c s (stepBy s a) ≡ 0) × (sure c n s (stepBy s a) ≡ true)) (sym e) (x, r);
+          none = λ l. absurd (omega arith);
+        }
+
+    pub sure-none : 48 ≤ k → SureAt c n s 3200
+    sure-none h = record { found = λ l. absurd (omega arith); none = λ l. S .none h }
+
+  -- the quiet read
+
+  pub quiet-none : QuietAt c s 48
+  quiet-none = record { found = λ l. absurd (omega arith) }
+
+  pub quiet-some : (k : ℕ) → ended c s ≡ true → (k < 48 → SettledRead c s k) → QuietAt c s k
+  unfolding quiet
+  quiet-some k e f = record { found = found }
+    where
+      found : k < 48 → ((reading (kindOf (s .actions k)) && (ended c s && not (someBelow (s .count) (λ j. pending (s .actions k .loc) (s .actions j))))) ≡ true) × ((e : ℕ) × (stepCode c s (stepBy s (taking k e)) ≡ 0))
+      found l =
+          let r = f l in
+          let a = opens-accepts c s k (r .opened .0) l (r .opened .1) in
+          (and-make _ _ (a .0) (and-make _ _ e (ap not (r .still))), (r .opened .0, a .1))
+
+  -- the step at a position
+
+  module _ (j : ℕ) where
+    pub issue-at : 49 ≤ j / 64 → issue (j % 64) ≡ stepBy s (keyAt j)
+    issue-at h = ap (stepBy s) (sym (key-issue (j / 64) (j % 64) h))
+
+    pub commit-at : (p k e : ℕ) → j / 64 < 49 → k ≡ actionAt j → e ≡ sourceAt j → p ≡ s .actions k .proc → commit p k e ≡ stepBy s (keyAt j)
+    commit-at p k e h x y z = rw (z, x, y) (ap (stepBy s) (sym (key-taken j h)))
+
+    pub issue-after : 49 ≤ j / 64 → issued c s (j % 64) ≡ after c s (stepBy s (keyAt j))
+    issue-after h = sym (after-issue c s (j % 64)) ∙ ap (after c s) (issue-at h)
+
+    pub commit-after : (p k e : ℕ) → commit p k e ≡ stepBy s (keyAt j) → committed c s p k e ≡ after c s (stepBy s (keyAt j))
+    commit-after p k e h = sym (after-commit c s p k e) ∙ ap (after c s) h
+
+    -- the action of an accepted commit is issued
+    pub there-at : (k : ℕ) → j / 64 < 49 → k ≡ actionAt j → stepCode c s (stepBy s (keyAt j)) ≡ 0 → k < s .count
+    there-at k h q x = can-commit c s (s .actions k .proc) k (sourceAt j) (ap (stepCode c s) (commit-at (s .actions k .proc) k (sourceAt j) h q refl refl) ∙ x) .there

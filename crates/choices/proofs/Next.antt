@@ -1,0 +1,88 @@
+-- The next position of a sweep, and a set that is not empty. Assumes nothing.
+use mathlib.Core.Path.{_≡_, sym, ap, subst, _∙_}
+use mathlib.Core.Bool.{true, false, false≢true}
+use mathlib.Core.List.{List}
+use Prim.Native.Nat.{ℕ, zero, suc, _+_, _/_, _%_, _^_, _<_, _≤_}
+use native.Mathlib.Omega.{arith}
+use native.Mathlib.Decide.{decLt}
+use lib.Dec.{eqb}
+use lib.Pow.{shr-shr}
+use borrow.Author.Tests.{eq-eqb}
+use Rattle.words.specs.Sets.{has}
+use Rattle.words.proofs.Sets.{has-zero}
+use Rattle.cases.specs.declared.Case.{Case}
+use Rattle.rules.specs.State.{State}
+use Rattle.choices.specs.Words.{opens, spentBy}
+use Rattle.choices.specs.Choice.{keyAt, opensAt, NextAt}
+use Rattle.choices.specs.Opening.{FirstFresh}
+
+-- every bit from `at` on, before i, that is set is spent
+abbrev pub Skipped : ℕ → List ℕ → ℕ → ℕ → Type 0
+Skipped word now at i = (q : ℕ) → at ≤ q → q < i → has word (q % 64) ≡ true → spentBy now (keyAt q) ≡ true
+
+module _ (word : ℕ) (now : List ℕ) (at : ℕ) where
+  pub skip-none : Skipped word now at at
+  skip-none q h k = absurd (omega arith)
+
+  pub skip-more : (i : ℕ) → Skipped word now at i → (has word (i % 64) ≡ true → spentBy now (keyAt i) ≡ true) → Skipped word now at (i + 1)
+  skip-more i S h q a b x =
+      elim (decLt q i) [
+        | yes l ↦ S q a l x
+        | no l ↦ let z : q ≡ i = omega arith in subst (λ (n : ℕ). spentBy now (keyAt n) ≡ true) (sym z) (h (subst (λ (n : ℕ). has word (n % 64) ≡ true) z x))
+      ]
+
+  pub fresh-none : (end : ℕ) → at ≤ end → Skipped word now at end → FirstFresh word now at end end
+  fresh-none end h S = record { from = h; upto = omega arith; skipped = S; found = λ k. absurd (omega arith) }
+
+  pub fresh-empty : (end : ℕ) → at ≤ end → word ≡ 0 → FirstFresh word now at end end
+  fresh-empty end h e = fresh-none end h (λ q a b x. absurd (false≢true (sym (has-zero (q % 64)) ∙ ap (λ (w : ℕ). has w (q % 64)) (sym e) ∙ x)))
+
+  pub fresh-found : (end i : ℕ) → at ≤ i → i < end → Skipped word now at i → has word (i % 64) ≡ true → spentBy now (keyAt i) ≡ false → FirstFresh word now at end i
+  fresh-found end i h k S x y = record { from = h; upto = omega arith; skipped = S; found = λ z. (x, y) }
+
+-- every accepted step from `at` on, before i, is spent
+abbrev pub Passed : Case → State → List ℕ → ℕ → ℕ → Type 0
+Passed c s now at i = (q : ℕ) → at ≤ q → q < i → opensAt c s q ≡ true → spentBy now (keyAt q) ≡ true
+
+module _ (c : Case) (s : State) (now : List ℕ) (at to : ℕ) where
+  module _ (j end word : ℕ) (same : (i : ℕ) → j ≤ i → i < end → i / 64 ≡ j / 64) (short : end ≤ 3200) (bits : (e : ℕ) → e < 64 → has word e ≡ opens c s (j / 64) e) where
+    open-at : (i : ℕ) → j ≤ i → i < end → has word (i % 64) ≡ opensAt c s i
+    open-at i h k = bits (i % 64) (omega arith) ∙ ap (λ (w : ℕ). opens c s w (i % 64)) (sym (same i h k))
+
+    passed-word : (i : ℕ) → i ≤ end → Skipped word now j i → Passed c s now at j → Passed c s now at i
+    passed-word i k S P q a b x =
+        elim (decLt q j) [
+          | yes l ↦ P q a l x
+          | no l ↦ S q (omega arith) b (open-at q (omega arith) (omega arith) ∙ x)
+        ]
+
+    pub pass-more : (r : ℕ) → FirstFresh word now j end r → end ≤ r → Passed c s now at j → Passed c s now at end
+    pass-more r F h P = let z : r ≡ end = omega (arith, F .upto) in subst (Passed c s now at) z (passed-word r (F .upto) (F .skipped) P)
+
+    pub next-found : (r : ℕ) → at ≤ j → end ≤ to → FirstFresh word now j end r → r < end → Passed c s now at j → NextAt c s now at to r
+    next-found r a t F h P =
+        record {
+          from = omega (arith, F .from);
+          upto = omega arith;
+          skipped = passed-word r (F .upto) (F .skipped) P;
+          found = λ k. (sym (open-at r (F .from) h) ∙ F .found h .0, F .found h .1);
+        }
+
+  pub next-none : (j : ℕ) → j ≡ to → at ≤ to → Passed c s now at j → NextAt c s now at to to
+  next-none j e a P = record { from = a; upto = omega arith; skipped = subst (Passed c s now at) e P; found = λ k. absurd (omega arith) }
+
+-- a number that is not 0 has a bit
+
+half-bit : (x e : ℕ) → has (x / 2) e ≡ has x (1 + e)
+half-bit x e = ap (λ (n : ℕ). eqb (n % 2) 1) (shr-shr x 1 e)
+
+pub some-bit : (n x : ℕ) → x ≤ n → (x ≡ 0 → ⊥) → (e : ℕ) × (has x e ≡ true)
+some-bit zero x h z = absurd (z (omega arith))
+some-bit (suc n) x h z =
+    elim (decLt (x % 2) 1) [
+      | yes k ↦ let r = some-bit n (x / 2) (omega (arith, positive z)) (λ q. z (omega arith)) in (1 + r .0, sym (half-bit x (r .0)) ∙ r .1)
+      | no k ↦ (0, eq-eqb (x / 2 ^ 0 % 2) 1 (omega arith))
+    ]
+  where
+    positive : (x ≡ 0 → ⊥) → 0 < x
+    positive q = omega arith

@@ -1,0 +1,68 @@
+use Rattle.choices.proofs.Answers.{sure-lone, sure-issue, sure-none}
+use Rattle.choices.proofs.Opens.{issue-accepts}
+use Rattle.machine.specs.Shown.{shown}
+use Prim.Native.Nat.{_-_}
+use mathlib.Core.Path.{refl, sym}
+use borrow.Author.Needs.{needs}
+use Rattle.choices.proofs.sure_step.Statement.{statement}
+use Rattle.choices.proofs.sure_step.Tie as tie
+
+sure-commit-requires : tie.Need-sure-commit-requires
+sure-commit-requires c κs = search needs
+
+add-result : tie.Need-add-result
+add-result c = search needs
+
+returns : tie.Need-returns
+returns c =
+    let b = c .before .before .before .before .before .before in
+    let a = b .args in
+    let s = shown (a .c) (a .t2) in
+    sure-lone (a .c) s (a .n) (c .before .sure-commit .result) (c .before .sure-commit .ensures s (record { count = refl; actions = refl }) refl refl) (c .if1 .taken)
+
+add-if2 : tie.Need-add-if2
+add-if2 c = search needs
+
+issuer-requires : tie.Need-issuer-requires
+issuer-requires c κs = search needs
+
+add-result-2 : tie.Need-add-result-2
+add-result-2 c = search needs
+
+returns-2 : tie.Need-returns-2
+returns-2 c =
+    let u = c .before .before .before .before .before .before .before in
+    let b = u .before .before .before .before .before in
+    let a = b .args in
+    let s = shown (a .c) (a .t2) in
+    sure-issue (a .c) s (a .n) (u .sure-commit .result) (u .sure-commit .ensures s (record { count = refl; actions = refl }) refl refl) (c .before .issuer .result) (c .if3 .taken)
+    (issue-accepts (a .c) s (c .before .issuer .result) (c .before .issuer .ensures s (record { count = refl; actions = refl }) refl refl (c .if3 .taken)))
+    (rw (sym (b .pre .1)) (c .before .before .before .before .before .if2 .taken))
+
+returns-3 : tie.Need-returns-3
+returns-3 c =
+    let u = c .before .before .before .before .before .before .before in
+    let a = u .before .before .before .before .before .args in
+    let s = shown (a .c) (a .t2) in
+    sure-none (a .c) s (a .n) (u .sure-commit .result) (u .sure-commit .ensures s (record { count = refl; actions = refl }) refl refl) (c .before .before .before .before .before .before .if1 .left)
+
+returns-4 : tie.Need-returns-4
+returns-4 c =
+    let u = c .before .before in
+    let a = u .before .before .before .before .before .args in
+    let s = shown (a .c) (a .t2) in
+    sure-none (a .c) s (a .n) (u .sure-commit .result) (u .sure-commit .ensures s (record { count = refl; actions = refl }) refl refl) (c .before .if1 .left)
+
+pub sure-step-spec : {M : Type 1} → statement M
+sure-step-spec =
+    tie.close
+    (tie.spec
+    sure-commit-requires
+    add-result
+    returns
+    add-if2
+    issuer-requires
+    add-result-2
+    returns-2
+    returns-3
+    returns-4)

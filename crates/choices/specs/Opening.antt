@@ -1,0 +1,64 @@
+-- What the loops of the questions find. Assumes nothing.
+use mathlib.Core.Path.{_≡_}
+use mathlib.Core.Bool.{Bool, true, false, _&&_, _||_, not}
+use mathlib.Core.List.{List}
+use Prim.Native.Nat.{ℕ, _%_, _≤_, _<_}
+use lib.Dec.{eqb, leb}
+use Rattle.words.specs.Small.{isNone, any, someBelow}
+use Rattle.words.specs.Sets.{has}
+use Rattle.cases.specs.declared.Case.{Case}
+use Rattle.rules.specs.Kinds.{reading, writing}
+use Rattle.rules.specs.Order.{Order}
+use Rattle.rules.specs.State.{State, Action, kindOf, valueOf, itemValue}
+use Rattle.rules.specs.Commit.{writes}
+use Rattle.rules.specs.Step.{commit, stepCode}
+use Rattle.sure.specs.Sure.{sureKind}
+use Rattle.sure.specs.Quiet.{pending}
+use Rattle.machine.specs.declared.Entry.{Entry}
+use Rattle.machine.specs.declared.Machine.{Machine}
+use Rattle.committing.specs.Committed.{holding}
+use Rattle.choices.specs.Words.{opens, spentBy}
+use Rattle.choices.specs.Choice.{keyAt}
+
+-- The action is a write to location l.
+abbrev pub writeTo : ℕ → Action → Bool
+writeTo l a = writing (kindOf a) && eqb (a .loc) l
+
+-- The write items of location l that have their value.
+abbrev pub givenTo : Case → State → ℕ → ℕ → Bool
+givenTo c s l e = writes s l e && not (isNone (itemValue c s e))
+
+-- The mask has what stands in R before an item below n that passes the test P and stands before item i.
+abbrev pub Covers : Order → ℕ → (ℕ → Bool) → ℕ → ℕ → Type 0
+Covers R n P i mask = (a : ℕ) → has mask a ≡ someBelow n (λ w. P w && (R a w && R w i))
+
+-- A queued read of a processor below `procs`.
+abbrev pub queuedRead : ℕ → Action → Bool
+queuedRead procs a = reading (kindOf a) && (isNone (a .result) && not (leb procs (a .proc)))
+
+-- Action k is a read that every refusal but 32 lets pass.
+abbrev pub readyRead : Case → State → ℕ → Bool
+readyRead c s k =
+    let a = s .actions k in
+    queuedRead (c .procs) a && not (someBelow k (λ j. holding (a .proc) 1 (a .loc) (s .actions j)) || any (λ n. isNone (valueOf s n)) (a .inputs))
+
+-- The machine of these arrays.
+abbrev pub machineOf : ℕ → List ℕ → List ℕ → List ℕ → List Entry → List ℕ → Machine
+machineOf issued places names holders acts rows = record { issued = issued; places = places; names = names; holders = holders; acts = acts; rows = rows }
+
+-- The first position from `at` on, before `end`, whose bit of the word is set and that is not spent, else `end`.
+pub record FirstFresh (word : ℕ) (now : List ℕ) (at end j : ℕ) : Type 0 where
+  pub from : at ≤ j
+  pub upto : j ≤ end
+  pub skipped : (i : ℕ) → at ≤ i → i < j → has word (i % 64) ≡ true → spentBy now (keyAt i) ≡ true
+  pub found : j < end → (has word (j % 64) ≡ true) × (spentBy now (keyAt j) ≡ false)
+
+-- The number of an action of a sure kind whose commit is accepted, or 48 where there is none.
+pub record SureCommit (c : Case) (s : State) (j : ℕ) : Type 0 where
+  pub found : j < 48 → (stepCode c s (commit (s .actions j .proc) j 0) ≡ 0) × (sureKind (kindOf (s .actions j)) ≡ true)
+  pub none : 48 ≤ j → (k : ℕ) → k < s .count → sureKind (kindOf (s .actions k)) ≡ true → stepCode c s (commit (s .actions k .proc) k 0) ≡ 0 → ⊥
+
+-- Action k is a read that is accepted from some item, and no write to its location is queued.
+pub record SettledRead (c : Case) (s : State) (k : ℕ) : Type 0 where
+  pub opened : (e : ℕ) × (opens c s k e ≡ true)
+  pub still : someBelow (s .count) (λ j. pending (s .actions k .loc) (s .actions j)) ≡ false

@@ -1,0 +1,52 @@
+-- At most one answer satisfies the statement of a listing, and an unmarked list is that of every larger bound. Assumes nothing.
+use mathlib.Core.Path.{_≡_, refl, sym, _∙_}
+use mathlib.Core.Bool.{false}
+use mathlib.Core.List.{List}
+use Prim.Native.Nat.{ℕ, zero, suc, _*_, _/_, _≤_, _<_}
+use native.Mathlib.Omega.{arith}
+use native.Mathlib.Decide.{decLt}
+use lib.ListN.{length}
+use Rattle.words.specs.Refusals.{firstOf}
+use Rattle.cases.specs.Block.{caseOf}
+use Rattle.runs.specs.Listing.{Listed, Refused, IsListing}
+use Rattle.rules.specs.Womm.{womm}
+use Rattle.rules.proofs.Listing.{listing-unique, listing-same}
+use Rattle.listing.specs.Outcomes.{listRefusals, IsOutcomes}
+use Rattle.listing.proofs.Refusals.{accepted, accepted-block}
+
+refused-unique : (why size : ℕ) (a b : Listed) (out buf : List ℕ) → Refused why size a out → Refused why size b buf → (a ≡ b) × (out ≡ buf)
+refused-unique why size a b out buf x y =
+    (λ i. record { code = (x .code ∙ sym (y .code)) i; count = (x .count ∙ sym (y .count)) i; cut = (x .cut ∙ sym (y .cut)) i }, x .bytes ∙ sym (y .bytes))
+
+-- AT MOST ONE ANSWER
+pub outcomes-unique : (block : List ℕ) (bound size : ℕ) (a b : Listed) (out buf : List ℕ) → IsOutcomes block bound size a out → IsOutcomes block bound size b buf → (a ≡ b) × (out ≡ buf)
+outcomes-unique block bound size a b out buf x y = by-code (firstOf (listRefusals block bound)) refl
+  where
+    by-code : (n : ℕ) → firstOf (listRefusals block bound) ≡ n → (a ≡ b) × (out ≡ buf)
+    by-code zero e = listing-unique (caseOf block) bound size a b out buf (x .sound e) (y .sound e)
+    by-code (suc n) e = let h : 0 < firstOf (listRefusals block bound) = omega (arith, e) in refused-unique _ size a b out buf (x .unsound h) (y .unsound h)
+
+-- THE SAME FOR LARGER BOUNDS
+pub outcomes-same : (block : List ℕ) (bound more size : ℕ) (a : Listed) (out : List ℕ) → bound ≤ more → more ≤ 96 → a .code ≡ 0 → a .cut ≡ false → IsOutcomes block bound size a out → IsOutcomes block more size a out
+outcomes-same block bound more size a out le few ok unmarked x = by-code (firstOf (listRefusals block bound)) refl
+  where
+    by-code : (n : ℕ) → firstOf (listRefusals block bound) ≡ n → IsOutcomes block more size a out
+    by-code zero e =
+        let z = accepted block more (accepted-block block bound e) few in
+        record { sound = λ _. listing-same (caseOf block) bound more size a out le ok unmarked (x .sound e); unsound = λ h. absurd (omega (arith, z)) }
+    by-code (suc n) e = let h : 0 < firstOf (listRefusals block bound) = omega (arith, e) in absurd (omega (arith, x .unsound h .code))
+
+-- as many records as an accepted answer counts fit the buffer
+pub outcomes-room : (block : List ℕ) (bound size : ℕ) (a : Listed) (out : List ℕ) → IsOutcomes block bound size a out → a .code ≡ 0 → 96 * a .count ≤ size
+outcomes-room block bound size a out x ok = by-code (firstOf (listRefusals block bound)) refl
+  where
+    by-list : IsListing (womm (caseOf block)) bound size a out → 96 * a .count ≤ size
+    by-list y =
+        elim (decLt (size / 96) (length (y .records))) [
+          | yes h ↦ absurd (omega (arith, y .full h .code))
+          | no h ↦ let few : length (y .records) ≤ size / 96 = omega arith in omega (arith, y .fits few .count)
+        ]
+
+    by-code : (n : ℕ) → firstOf (listRefusals block bound) ≡ n → 96 * a .count ≤ size
+    by-code zero e = by-list (x .sound e)
+    by-code (suc n) e = let h : 0 < firstOf (listRefusals block bound) = omega (arith, e) in absurd (omega (arith, x .unsound h .code))

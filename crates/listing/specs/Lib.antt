@@ -1,0 +1,4 @@
+pub mod Outcomes
+pub mod Positions
+pub mod Ready
+pub mod Searched

@@ -1,0 +1,134 @@
+-- The answer of a replay. Assumes nothing.
+use mathlib.Core.Path.{_≡_, refl, sym, _∙_, ap, subst}
+use mathlib.Core.Bool.{true, false, cond, _||_, not}
+use mathlib.Core.List.{List, [], _∷_, _++_}
+use Prim.Native.Nat.{ℕ, zero, suc, _%_, _≤_, _<_}
+use native.Mathlib.Omega.{arith}
+use lib.Dec.{eqb, ltb}
+use lib.ListN.{length, replicate}
+use borrow.Author.Tests.{eq-eqb, ne-eqb, eqb-true, lt-ltb, le-ltb, ltb-true, not-false}
+use Rattle.words.specs.Refusals.{Refusal, _when_, firstOf}
+use Rattle.words.proofs.Bools.{and-both, or-none}
+use Rattle.words.proofs.First.{First, first, hit, miss, first-none}
+use Rattle.words.proofs.Passed.{positive}
+use Rattle.cases.specs.declared.Case.{Case}
+use Rattle.cases.specs.declared.CaseRead.{CaseRead}
+use Rattle.cases.specs.Block.{refusals, caseOf, answered, readOf}
+use Rattle.runs.specs.Replay.{replay}
+use Rattle.rules.specs.State.{initial}
+use Rattle.rules.specs.Step.{stepsOf}
+use Rattle.rules.specs.Result.{resultBytes}
+use Rattle.rules.specs.Womm.{womm}
+use Rattle.machine.specs.Shown.{shown}
+use Rattle.machine.specs.Fit.{Fit}
+use Rattle.machine.proofs.Fits.{fit}
+use Rattle.replaying.specs.declared.Replayed.{Replayed}
+use Rattle.replaying.specs.declared.Walked.{Walked}
+use Rattle.replaying.specs.Answer.{Answer, lengthRefusals, replayRefusals, answerOf, answerFrom, replayed, IsReplay}
+use Rattle.replaying.specs.Inner.{IsWalk}
+
+-- codes 8 and 9
+module _ (n size : ℕ) where
+  pub odd-length : (n % 4 ≡ 0 → ⊥) → 8 ≡ firstOf (lengthRefusals n size)
+  odd-length h = first (lengthRefusals n size) (hit (rw (ne-eqb (n % 4) 0 h)))
+
+  pub long-length : n % 4 ≡ 0 → 384 < n → 8 ≡ firstOf (lengthRefusals n size)
+  long-length h k = first (lengthRefusals n size) (hit (rw (eq-eqb (n % 4) 0 h) (lt-ltb 384 n k)))
+
+  fair : n % 4 ≡ 0 → n ≤ 384 → (not (eqb (n % 4) 0) || ltb 384 n) ≡ false
+  fair h k = rw (eq-eqb (n % 4) 0 h) (le-ltb 384 n k)
+
+  pub other-size : n % 4 ≡ 0 → n ≤ 384 → (size ≡ 104 → ⊥) → 9 ≡ firstOf (lengthRefusals n size)
+  other-size h k z = first (lengthRefusals n size) (miss (fair h k) (hit (rw (ne-eqb size 104 z))))
+
+  pub no-length : n % 4 ≡ 0 → n ≤ 384 → size ≡ 104 → 0 ≡ firstOf (lengthRefusals n size)
+  no-length h k z = first (lengthRefusals n size) (miss (fair h k) (miss (rw (eq-eqb size 104 z)) First.none))
+
+-- one list of refusals behind another
+append-first : (l m : List Refusal) → positive l ≡ true → firstOf (l ++ m) ≡ cond (eqb (firstOf l) 0) (firstOf m) (firstOf l)
+unfolding firstOf
+append-first [] m p = refl
+append-first (code when true ∷ rest) m p = rw (ne-eqb code 0 (λ e. omega (arith, e, ltb-true 0 code (and-both (ltb 0 code) (positive rest) p .0))))
+append-first (code when false ∷ rest) m p = append-first rest m (and-both (ltb 0 code) (positive rest) p .1)
+
+module _ (block schedule : List ℕ) (size : ℕ) where
+  abbrev own : ℕ
+  own = firstOf (refusals block)
+
+  abbrev all : ℕ
+  all = cond (eqb own 0) (firstOf (lengthRefusals (length schedule) size)) own
+
+  codes-are : firstOf (replayRefusals block schedule size) ≡ all
+  unfolding replayRefusals
+  codes-are = append-first (refusals block) (lengthRefusals (length schedule) size) refl
+
+  answered-code : (n : ℕ) (c : Case) → answered n c .code ≡ n
+  answered-code zero c = refl
+  answered-code (suc n) c = refl
+
+  pub read-code : (r : CaseRead) → r ≡ readOf block → r .code ≡ own
+  unfolding readOf
+  read-code r h = ap (λ (x : CaseRead). x .code) h ∙ answered-code own (caseOf block)
+
+  -- refused before the first step
+  pub refused : (n : ℕ) (out : List ℕ) → n ≡ all → (n ≡ 0 → ⊥) → out ≡ replicate size 0 → IsReplay block schedule size (record { code = n; steps = 0 }) out
+  unfolding replayed
+  refused n out h z e = subst (λ (k : ℕ). IsReplay block schedule size (record { code = k; steps = 0 }) out) (sym h) (made all codes-are (λ q. z (h ∙ q)))
+    where
+      from : (k : ℕ) → (k ≡ 0 → ⊥) → answerFrom k (caseOf block) (stepsOf schedule) size ≡ record { code = k; steps = 0; bytes = replicate size 0 }
+      from zero z = absurd (z refl)
+      from (suc k) z = refl
+
+      made : (k : ℕ) → firstOf (replayRefusals block schedule size) ≡ k → (k ≡ 0 → ⊥) → IsReplay block schedule size (record { code = k; steps = 0 }) out
+      made k q z =
+          let w = ap (λ (i : ℕ). answerFrom i (caseOf block) (stepsOf schedule) size) q ∙ from k z in
+          record { code = sym (ap (λ (a : Answer). a .code) w); steps = sym (ap (λ (a : Answer). a .steps) w); bytes = e ∙ sym (ap (λ (a : Answer). a .bytes) w) }
+
+  -- taken up
+  module _ (zero-code : 0 ≡ all) where
+    split : (n m : ℕ) → 0 ≡ cond (eqb n 0) m n → (n ≡ 0) × (m ≡ 0)
+    split zero m h = (refl, sym h)
+    split (suc n) m h = let q : 0 ≡ suc n = h ∙ rw (ne-eqb (suc n) 0 (λ e. omega arith)) in absurd (omega arith)
+
+    own-none : own ≡ 0
+    own-none = split own (firstOf (lengthRefusals (length schedule) size)) zero-code .0
+
+    lengths-none : firstOf (lengthRefusals (length schedule) size) ≡ 0
+    lengths-none = split own (firstOf (lengthRefusals (length schedule) size)) zero-code .1
+
+    pub case-is : (r : CaseRead) → r ≡ readOf block → r .case ≡ caseOf block
+    unfolding readOf
+    case-is r h = ap (λ (x : CaseRead). x .case) h ∙ ap (λ (n : ℕ). answered n (caseOf block) .case) own-none
+
+    pub case-fit : Fit (caseOf block)
+    case-fit = fit block (first-none 1 _ _ (first-none 0 _ _ own-none .1) .1)
+
+    tests : ((not (eqb (length schedule % 4) 0) || ltb 384 (length schedule)) ≡ false) × (firstOf (9 when not (eqb size 104) ∷ []) ≡ 0)
+    tests = first-none 7 _ _ lengths-none
+
+    pub in-fours : length schedule % 4 ≡ 0
+    in-fours = eqb-true (length schedule % 4) 0 (not-false _ (or-none (not (eqb (length schedule % 4) 0)) (ltb 384 (length schedule)) (tests .0) .0))
+
+    pub right-size : size ≡ 104
+    right-size = eqb-true size 104 (not-false _ (first-none 8 _ _ (tests .1) .0))
+
+    replayed-is : replayed block schedule size ≡ answerOf (caseOf block) (replay (womm (caseOf block)) (initial (caseOf block)) (stepsOf schedule))
+    unfolding replayed
+    replayed-is = ap (λ (n : ℕ). answerFrom n (caseOf block) (stepsOf schedule) size) (codes-are ∙ sym zero-code)
+
+    pub taken : (c : Case) (w : Walked) (out : List ℕ) → c ≡ caseOf block → IsWalk c (stepsOf schedule) w → out ≡ resultBytes c (shown c (w .machine)) → IsReplay block schedule size (record { code = w .code; steps = w .steps }) out
+    taken c w out same u e = subst (λ (k : Case). IsWalk k (stepsOf schedule) w → out ≡ resultBytes k (shown k (w .machine)) → IsReplay block schedule size (record { code = w .code; steps = w .steps }) out) (sym same) made u e
+      where
+        made : IsWalk (caseOf block) (stepsOf schedule) w → out ≡ resultBytes (caseOf block) (shown (caseOf block) (w .machine)) → IsReplay block schedule size (record { code = w .code; steps = w .steps }) out
+        made v f = record {
+          code = v .code ∙ sym (ap (λ (a : Answer). a .code) replayed-is);
+          steps = v .steps ∙ sym (ap (λ (a : Answer). a .steps) replayed-is);
+          bytes = f ∙ ap (resultBytes (caseOf block)) (v .shows) ∙ sym (ap (λ (a : Answer). a .bytes) replayed-is);
+        }
+
+-- At most one answer and one content of the buffer are right.
+pub replay-unique : (block schedule : List ℕ) (size : ℕ) (r r′ : Replayed) (out out′ : List ℕ) → IsReplay block schedule size r out → IsReplay block schedule size r′ out′ → (r ≡ r′) × (out ≡ out′)
+replay-unique block schedule size r r′ out out′ u v =
+    let q = u .code ∙ sym (v .code) in
+    let w = u .steps ∙ sym (v .steps) in
+    ((λ j. record { code = q j; steps = w j }), u .bytes ∙ sym (v .bytes))

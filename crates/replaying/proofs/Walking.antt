@@ -1,0 +1,113 @@
+-- A schedule, four bytes at a time. Assumes nothing.
+use mathlib.Core.Path.{_≡_, refl, sym, _∙_, ap}
+use mathlib.Core.List.{List, [], _∷_}
+use Prim.Native.Nat.{ℕ, zero, suc, _+_, _*_, _≤_, _<_}
+use native.Mathlib.Nat.{zero-add, add-zero}
+use native.Mathlib.Omega.{arith}
+use lib.ListN.{length, getD, drop}
+use lib.Seq.{drop-cons, drop-length}
+use Rattle.cases.specs.declared.Case.{Case}
+use Rattle.runs.specs.Replay.{Replay, resumed, replay}
+use Rattle.rules.specs.State.{State, initial}
+use Rattle.rules.specs.Step.{Step, stepOf, stepsOf, stepCode, after}
+use Rattle.rules.specs.Womm.{womm}
+use Rattle.machine.specs.declared.Machine.{Machine}
+use Rattle.machine.specs.Shown.{shown}
+use Rattle.machine.specs.Valid.{Valid}
+use Rattle.stepping.specs.declared.Stepped.{Stepped}
+use Rattle.stepping.specs.Taken.{Taken}
+use Rattle.replaying.specs.Inner.{IsWalk}
+
+-- a replay with k steps before it
+abbrev pub later : ℕ → Replay State → Replay State
+later k r = record { code = r .code; taken = k + r .taken; state = r .state }
+
+go-on : (c : Case) (s : State) (t : Step) (ts : List Step) → stepCode c s t ≡ 0 → replay (womm c) s (t ∷ ts) ≡ later 1 (replay (womm c) (after c s t) ts)
+unfolding replay
+go-on c s t ts h =
+    let r = replay (womm c) (after c s t) ts in
+    let q : suc (r .taken) ≡ 1 + r .taken = omega arith in
+    rw h (λ j. record { code = r .code; taken = q j; state = r .state })
+
+stop : (c : Case) (s : State) (t : Step) (ts : List Step) → (stepCode c s t ≡ 0 → ⊥) → replay (womm c) s (t ∷ ts) ≡ record { code = stepCode c s t; taken = 0; state = s }
+unfolding replay
+stop c s t ts h = ended (stepCode c s t) h
+  where
+    ended : (n : ℕ) → (n ≡ 0 → ⊥) → resumed n s (replay (womm c) (after c s t) ts) ≡ record { code = n; taken = 0; state = s }
+    ended zero z = absurd (z refl)
+    ended (suc n) z = refl
+
+module _ (sch : List ℕ) where
+  -- the step at 4k
+  abbrev stepAt : ℕ → Step
+  stepAt k = stepOf (getD sch (4 * k) 0) (getD sch (4 * k + 1) 0) (getD sch (4 * k + 2) 0) (getD sch (4 * k + 3) 0)
+
+  drop-next : (i j : ℕ) → i < length sch → suc i ≡ j → drop i sch ≡ getD sch i 0 ∷ drop j sch
+  drop-next i j h e = drop-cons sch i 0 h ∙ ap (λ (n : ℕ). getD sch i 0 ∷ drop n sch) e
+
+  four : (k : ℕ) → 4 * k + 4 ≤ length sch → drop (4 * k) sch ≡ getD sch (4 * k) 0 ∷ getD sch (4 * k + 1) 0 ∷ getD sch (4 * k + 2) 0 ∷ getD sch (4 * k + 3) 0 ∷ drop (4 * (k + 1)) sch
+  four k h =
+      drop-next (4 * k) (4 * k + 1) (omega arith) (omega arith)
+      ∙ ap (λ (l : List ℕ). getD sch (4 * k) 0 ∷ l) (drop-next (4 * k + 1) (4 * k + 2) (omega arith) (omega arith))
+      ∙ ap (λ (l : List ℕ). getD sch (4 * k) 0 ∷ getD sch (4 * k + 1) 0 ∷ l) (drop-next (4 * k + 2) (4 * k + 3) (omega arith) (omega arith))
+      ∙ ap (λ (l : List ℕ). getD sch (4 * k) 0 ∷ getD sch (4 * k + 1) 0 ∷ getD sch (4 * k + 2) 0 ∷ l) (drop-next (4 * k + 3) (4 * (k + 1)) (omega arith) (omega arith))
+
+  steps-next : (k : ℕ) → 4 * k + 4 ≤ length sch → stepsOf (drop (4 * k) sch) ≡ stepAt k ∷ stepsOf (drop (4 * (k + 1)) sch)
+  steps-next k h = ap stepsOf (four k h)
+
+  steps-end : (k : ℕ) → 4 * k ≡ length sch → stepsOf (drop (4 * k) sch) ≡ []
+  steps-end k h = ap stepsOf (ap (λ (n : ℕ). drop n sch) h ∙ drop-length sch)
+
+  module _ (c : Case) where
+    abbrev whole : Replay State
+    whole = replay (womm c) (initial c) (stepsOf sch)
+
+    -- k steps are taken, and m shows the state then
+    abbrev pub Reached : ℕ → Machine → Type 0
+    Reached k m = whole ≡ later k (replay (womm c) (shown c m) (stepsOf (drop (4 * k) sch)))
+
+    pub reached-start : (m : Machine) → shown c m ≡ initial c → Reached 0 m
+    reached-start m h =
+        let r = whole in
+        let q : r .taken ≡ 0 + r .taken = sym (zero-add (r .taken)) in
+        (λ j. record { code = r .code; taken = q j; state = r .state }) ∙ ap (λ (s : State). later 0 (replay (womm c) s (stepsOf sch))) (sym h)
+
+    module _ (k : ℕ) (m : Machine) (r : Stepped) (inside : 4 * k + 4 ≤ length sch) (at : Reached k m) (u : Taken c m (stepAt k) r) where
+      pub reached-next : r .code ≡ 0 → Reached (k + 1) (r .machine)
+      reached-next z =
+          let t = stepAt k in
+          let ts = stepsOf (drop (4 * (k + 1)) sch) in
+          let w = replay (womm c) (after c (shown c m) t) ts in
+          let q : k + (1 + w .taken) ≡ k + 1 + w .taken = omega arith in
+          at
+          ∙ ap (λ (l : List Step). later k (replay (womm c) (shown c m) l)) (steps-next k inside)
+          ∙ ap (later k) (go-on c (shown c m) t ts (sym (u .code) ∙ z))
+          ∙ (λ j. record { code = w .code; taken = q j; state = w .state })
+          ∙ ap (λ (s : State). later (k + 1) (replay (womm c) s ts)) (sym (u .accepted z))
+
+      pub reached-stop : (r .code ≡ 0 → ⊥) → IsWalk c (stepsOf sch) (record { code = r .code; steps = k; machine = r .machine })
+      reached-stop z =
+          let t = stepAt k in
+          let ts = stepsOf (drop (4 * (k + 1)) sch) in
+          let e : whole ≡ later k (record { code = stepCode c (shown c m) t; taken = 0; state = shown c m }) =
+          at ∙ ap (λ (l : List Step). later k (replay (womm c) (shown c m) l)) (steps-next k inside) ∙ ap (later k) (stop c (shown c m) t ts (λ q. z (u .code ∙ q))) in
+          record {
+            code = u .code ∙ sym (ap (λ (x : Replay State). x .code) e);
+            steps = sym (ap (λ (x : Replay State). x .taken) e ∙ add-zero k);
+            shows = ap (shown c) (u .refused (positive (r .code) z)) ∙ sym (ap (λ (x : Replay State). x .state) e);
+            valid = u .valid;
+          }
+        where
+          positive : (n : ℕ) → (n ≡ 0 → ⊥) → 0 < n
+          positive n z = omega arith
+
+    pub reached-end : (k : ℕ) (m : Machine) → 4 * k ≡ length sch → Valid c m → Reached k m → IsWalk c (stepsOf sch) (record { code = 0; steps = k; machine = m })
+    unfolding replay
+    reached-end k m h v at =
+        let e : whole ≡ later k (replay (womm c) (shown c m) []) = at ∙ ap (λ (l : List Step). later k (replay (womm c) (shown c m) l)) (steps-end k h) in
+        record {
+          code = sym (ap (λ (x : Replay State). x .code) e);
+          steps = sym (ap (λ (x : Replay State). x .taken) e ∙ add-zero k);
+          shows = sym (ap (λ (x : Replay State). x .state) e);
+          valid = v;
+        }

@@ -1,0 +1,198 @@
+// A replay: a schedule taken step by step on the case that a block holds.
+use cases::Case;
+use machine::Entry;
+use machine::Machine;
+ghost use mathlib.Core.Path.{_≡_};
+ghost use mathlib.Core.Bool.{cond};
+ghost use Prim.Native.Nat.{ℕ, _%_, _≤_, _<_};
+ghost use lib.Dec.{eqb};
+ghost use lib.ListN.{length, getD};
+ghost use Rattle.words.specs.Refusals.{firstOf};
+ghost use Rattle.cases.specs.declared.Case.{Case as TheCase};
+ghost use Rattle.rules.specs.State.{State, waiting};
+ghost use Rattle.rules.specs.Step.{stepsOf};
+ghost use Rattle.rules.specs.Result.{howMany, registers as registersOf, resultBytes};
+ghost use Rattle.machine.specs.Shown.{placeOf, shown, Acts};
+ghost use Rattle.machine.specs.Fit.{Fit};
+ghost use Rattle.machine.specs.Valid.{Valid};
+ghost use Rattle.replaying.specs.Answer.{lengthRefusals, IsReplay};
+ghost use Rattle.replaying.specs.Inner.{IsWalk, tailOf};
+
+// The code, and the number of steps taken.
+pub struct Replayed {
+    pub code: u8,
+    pub steps: usize,
+}
+
+// The code of the first refused step or 0, the number of steps before it, and the machine then.
+pub struct Walked {
+    pub code: u8,
+    pub steps: usize,
+    pub machine: Machine,
+}
+
+// Takes the steps of a schedule until one is refused.
+pub fn walk(c: Case, schedule: &[u8]) -> Walked
+    requires { ⌜ Fit c × (length (now schedule) % 4 ≡ 0) ⌝ }
+    ensures { λ r. ⌜ IsWalk c (stepsOf (now (schedule .entry))) r ⌝ }
+{
+    let mut m = machine::start(c);
+    let mut steps: usize = 0;
+    while 4 * steps < schedule.len() {
+        let i = 4 * steps;
+        let s = stepping::step(
+            c,
+            m,
+            schedule[i],
+            schedule[i + 1],
+            schedule[i + 2],
+            schedule[i + 3],
+        );
+        let code = s.code;
+        let next = s.machine;
+        if code != 0 {
+            return Walked {
+                code,
+                steps,
+                machine: next,
+            };
+        }
+        m = next;
+        steps += 1;
+    }
+    Walked {
+        code: 0,
+        steps,
+        machine: m,
+    }
+}
+
+// 1 where the test passes, else 0.
+fn one_if(test: bool) -> u8
+    ensures { λ r. ⌜ (r ≡ cond test 1 0) × (r ≤ 1) ⌝ }
+{
+    if test {
+        return 1;
+    }
+    0
+}
+
+// How many actions processor p has in its queue.
+pub fn queue_length(acts: [Entry; 48], issued: usize, p: usize) -> u8
+    requires { ⌜ (issued ≤ 48) × (length acts ≡ 48) ⌝ }
+    ensures { λ r. ⌜ ((c : TheCase) (s : State) → Acts c issued acts s → r ≡ howMany (s .count) (λ k. waiting p (s .actions k))) ⌝ }
+{
+    let mut n: u8 = 0;
+    let mut k: usize = 0;
+    while k < issued {
+        let e = acts[k];
+        let more = one_if(machine::queued(e, p));
+        n = more + n;
+        k += 1;
+    }
+    n
+}
+
+// The place counter of processor p, then its queue's length, in the bytes after the registers; 0 of an absent processor.
+pub fn tail_byte(c: Case, places: &[u8; 4], acts: [Entry; 48], issued: usize, j: usize) -> u8
+    requires { ⌜ (issued ≤ 48) × (length acts ≡ 48) × (j < 8) ⌝ }
+    ensures { λ r. ⌜ ((s : State) → Acts c issued acts s → ((p : ℕ) → s .places p ≡ placeOf (getD (now (places .entry)) p 0)) → r ≡ getD (tailOf c s) j 0) ⌝ }
+{
+    let p = j % 4;
+    if words::wide(c.procs) <= p {
+        return 0;
+    }
+    if j < 4 {
+        return places[p];
+    }
+    queue_length(acts, issued, p)
+}
+
+// Byte i of the result: the registers, then the rest.
+pub fn result_byte<'a>(
+    c: Case,
+    registers: &'a [u8; 96],
+    places: &'a [u8; 4],
+    acts: [Entry; 48],
+    issued: usize,
+    i: usize,
+) -> u8
+    requires { ⌜ (issued ≤ 48) × (length acts ≡ 48) × (i < 104) ⌝ }
+    ensures { λ r. ⌜ ((s : State) → Acts c issued acts s → ((p : ℕ) → s .places p ≡ placeOf (getD (now (places .entry)) p 0)) → now (registers .entry) ≡ registersOf c s → r ≡ getD (resultBytes c s) i 0) ⌝ }
+{
+    if i < 96 {
+        return registers[i];
+    }
+    tail_byte(c, places, acts, issued, i - 96)
+}
+
+// Writes the 104 bytes of a result into a buffer.
+pub fn fill(
+    c: Case,
+    registers: [u8; 96],
+    places: [u8; 4],
+    acts: [Entry; 48],
+    issued: usize,
+    result: &mut [u8],
+)
+    requires { ⌜ (issued ≤ 48) × (length acts ≡ 48) × (length (now result) ≡ 104) ⌝ }
+    ensures { λ _. ⌜ ((s : State) → Acts c issued acts s → ((p : ℕ) → s .places p ≡ placeOf (getD places p 0)) → registers ≡ registersOf c s → now (result .exit) ≡ resultBytes c s) ⌝ }
+{
+    let mut i: usize = 0;
+    while i < 104 {
+        let b = result_byte(c, &registers, &places, acts, issued, i);
+        result[i] = b;
+        i += 1;
+    }
+}
+
+// Writes the result of a machine into a buffer of 104 bytes.
+pub fn show(c: Case, m: Machine, result: &mut [u8])
+    requires { ⌜ Valid c m × (length (now result) ≡ 104) ⌝ }
+    ensures { λ _. ⌜ now (result .exit) ≡ resultBytes c (shown c m) ⌝ }
+{
+    let acts = m.acts;
+    let issued = m.issued;
+    let places = m.places;
+    let registers = machine::registers(c, m);
+    fill(c, registers, places, acts, issued, result);
+}
+
+// The first of codes 1 to 9: code is the block's own.
+pub fn refusal(code: u8, schedule: usize, size: usize) -> u8
+    ensures { λ r. ⌜ r ≡ cond (eqb code 0) (firstOf (lengthRefusals schedule size)) code ⌝ }
+{
+    if code != 0 {
+        return code;
+    }
+    if schedule % 4 != 0 {
+        return 8;
+    }
+    if 384 < schedule {
+        return 8;
+    }
+    if size != 104 {
+        return 9;
+    }
+    0
+}
+
+// Replays a schedule on the case that a block holds. Refused before the first step, the result is all zeros.
+pub fn replay(block: &[u8], schedule: &[u8], result: &mut [u8]) -> Replayed
+    ensures { λ r. ⌜ IsReplay (now (block .entry)) (now (schedule .entry)) (length (now (result .entry))) r (now (result .exit)) ⌝ }
+{
+    let read = cases::read_case(block);
+    let code = refusal(read.code, schedule.len(), result.len());
+    if code != 0 {
+        records::clear(result);
+        return Replayed { code, steps: 0 };
+    }
+    let c = read.case;
+    let w = walk(c, schedule);
+    let m = w.machine;
+    show(c, m, result);
+    Replayed {
+        code: w.code,
+        steps: w.steps,
+    }
+}

@@ -1,0 +1,56 @@
+// The library for a host in another language: byte slices and numbers.
+ghost use mathlib.Core.Path.{_≡_};
+ghost use lib.ListN.{length};
+ghost use Rattle.cases.specs.Block.{readOf, sealCode, sealed};
+ghost use Rattle.replaying.specs.Answer.{replayed};
+ghost use Rattle.listing.specs.Outcomes.{IsOutcomes};
+ghost use Rattle.womm.specs.Exports.{listedAs, Answered};
+
+// Reads a block: 0 where it holds a case, else the first of codes 1 to 7.
+#[no_mangle]
+pub extern "C" fn womm_read(block: &[u8]) -> u32
+    ensures { λ r. ⌜ r ≡ readOf (now (block .entry)) .code ⌝ }
+{
+    let read = cases::read_case(block);
+    read.code as u32
+}
+
+// Writes a block: the buffer holds a case in bytes 0 to 509, as the block's table lays it out, and gets its check. Refused, it is all zeros.
+#[no_mangle]
+pub extern "C" fn womm_write(block: &mut [u8]) -> u32
+    ensures { λ r. ⌜ (r ≡ sealCode (now (block .entry))) × (now (block .exit) ≡ sealed (now (block .entry))) ⌝ }
+{
+    cases::seal(block) as u32
+}
+
+// Replays a schedule: the code, the steps taken, and the result's bytes.
+#[no_mangle]
+pub extern "C" fn womm_replay(
+    block: &[u8],
+    schedule: &[u8],
+    result: &mut [u8],
+    steps: &mut usize,
+) -> u32
+    ensures { λ r. ⌜ Answered (replayed (now (block .entry)) (now (schedule .entry)) (length (now (result .entry)))) r (now (steps .exit)) (now (result .exit)) ⌝ }
+{
+    let replayed = replaying::replay(block, schedule, result);
+    *steps = replayed.steps;
+    replayed.code as u32
+}
+
+// Lists the outcomes within a bound: the code, the count, the cut mark (1 yes, 0 no), and the records' bytes.
+#[no_mangle]
+pub extern "C" fn womm_outcomes(
+    block: &[u8],
+    bound: u32,
+    records: &mut [u8],
+    count: &mut usize,
+    cut: &mut usize,
+) -> u32
+    ensures { λ r. ⌜ IsOutcomes (now (block .entry)) bound (length (now (records .entry))) (listedAs r (now (count .exit)) (now (cut .exit))) (now (records .exit)) ⌝ }
+{
+    let listed = listing::outcomes(block, bound, records);
+    *count = listed.count;
+    *cut = listed.cut as usize;
+    listed.code as u32
+}
