@@ -1,4 +1,4 @@
-//! The library's two exports. A slice passes as its pointer, then its length.
+//! The library's two exports. A slice passes as its pointer, then its length; a number lent has a length's width.
 #![allow(unsafe_code)]
 
 extern "C" {
@@ -9,7 +9,7 @@ extern "C" {
         schedule_length: usize,
         result: *mut u8,
         result_length: usize,
-        steps: *mut u64,
+        steps: *mut usize,
     ) -> u32;
 
     fn womm_outcomes(
@@ -18,13 +18,13 @@ extern "C" {
         bound: u32,
         records: *mut u8,
         records_length: usize,
-        count: *mut u64,
-        cut: *mut u32,
+        count: *mut usize,
+        cut: *mut usize,
     ) -> u32;
 }
 
 /// Replays a schedule; gives the code.
-pub fn replay(block: &[u8], schedule: &[u8], result: &mut [u8], steps: &mut u64) -> u32 {
+pub fn replay(block: &[u8], schedule: &[u8], result: &mut [u8], steps: &mut usize) -> u32 {
     let (bytes, length) = (result.as_mut_ptr(), result.len());
     // SAFETY: each pointer comes from a live slice or number and goes with its own length; `result` and
     // `steps` are lent to this call alone.
@@ -32,7 +32,7 @@ pub fn replay(block: &[u8], schedule: &[u8], result: &mut [u8], steps: &mut u64)
 }
 
 /// Lists outcomes; gives the code.
-pub fn outcomes(block: &[u8], bound: u32, records: &mut [u8], count: &mut u64, cut: &mut u32) -> u32 {
+pub fn outcomes(block: &[u8], bound: u32, records: &mut [u8], count: &mut usize, cut: &mut usize) -> u32 {
     let (bytes, length) = (records.as_mut_ptr(), records.len());
     // SAFETY: as above; `records`, `count` and `cut` are lent to this call alone.
     unsafe { womm_outcomes(block.as_ptr(), block.len(), bound, bytes, length, count, cut) }

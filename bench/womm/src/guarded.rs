@@ -1,4 +1,3 @@
-use std::fmt::Debug;
 use std::hint::black_box;
 
 use model::{Listed, Lister, Replayed, Replayer};
@@ -12,8 +11,7 @@ pub struct Guarded;
 /// An odd margin, so that slices start at odd addresses; wider than a record.
 const MARGIN: usize = 129;
 const CANARY: u8 = 0xC7;
-const SHORT: u32 = u32::from_ne_bytes([CANARY; 4]);
-const LONG: u64 = u64::from_ne_bytes([CANARY; 8]);
+const NUMBER: usize = usize::from_ne_bytes([CANARY; size_of::<usize>()]);
 
 /// Bytes between two margins.
 struct Fenced(Vec<u8>);
@@ -40,31 +38,31 @@ impl Fenced {
     }
 }
 
-/// A number between two others of its kind.
-struct FencedNumber<T>([T; 3]);
+/// A number between two others.
+struct FencedNumber([usize; 3]);
 
-impl<T: Copy + PartialEq + Debug> FencedNumber<T> {
-    fn new(canary: T) -> FencedNumber<T> {
-        FencedNumber([canary; 3])
+impl FencedNumber {
+    fn new() -> FencedNumber {
+        FencedNumber([NUMBER; 3])
     }
 
     /// The number given, once those beside it have been looked at.
-    fn opened(&self, canary: T, what: &str) -> T {
+    fn opened(&self, what: &str) -> u32 {
         let [before, number, after] = *black_box(&self.0);
-        assert_eq!((before, after), (canary, canary), "a number beside the {what} was written");
-        assert_ne!(number, canary, "the {what} was not given");
-        number
+        assert_eq!((before, after), (NUMBER, NUMBER), "a number beside the {what} was written");
+        assert_ne!(number, NUMBER, "the {what} was not given");
+        short(number)
     }
 }
 
 impl Lister for Guarded {
     fn outcomes(&self, block: &[u8], bound: u32, records: &mut [u8]) -> Listed {
         let (held, mut lent) = (Fenced::new(block), Fenced::new(records));
-        let (mut count, mut cut) = (FencedNumber::new(LONG), FencedNumber::new(SHORT));
+        let (mut count, mut cut) = (FencedNumber::new(), FencedNumber::new());
         let code = ffi::outcomes(held.inner(), bound, lent.inner_mut(), &mut count.0[1], &mut cut.0[1]);
         assert_eq!(black_box(&held).opened("block"), block, "the block was written");
         records.copy_from_slice(black_box(&lent).opened("records"));
-        let (count, cut) = (short(count.opened(LONG, "count")), cut.opened(SHORT, "cut mark"));
+        let (count, cut) = (count.opened("count"), cut.opened("cut mark"));
         assert!(cut <= 1, "cut {cut} is neither yes nor no");
         Listed { code, count, cut: cut == 1 }
     }
@@ -73,11 +71,11 @@ impl Lister for Guarded {
 impl Replayer for Guarded {
     fn replay(&self, block: &[u8], schedule: &[u8], result: &mut [u8]) -> Replayed {
         let (held, steps_held, mut lent) = (Fenced::new(block), Fenced::new(schedule), Fenced::new(result));
-        let mut steps = FencedNumber::new(LONG);
+        let mut steps = FencedNumber::new();
         let code = ffi::replay(held.inner(), steps_held.inner(), lent.inner_mut(), &mut steps.0[1]);
         assert_eq!(black_box(&held).opened("block"), block, "the block was written");
         assert_eq!(black_box(&steps_held).opened("schedule"), schedule, "the schedule was written");
         result.copy_from_slice(black_box(&lent).opened("result"));
-        Replayed { code, steps: short(steps.opened(LONG, "steps")) }
+        Replayed { code, steps: steps.opened("steps") }
     }
 }

@@ -69,9 +69,9 @@ pub fn replay(case: &Case, steps: &[Step]) -> Result<Replay, Refusal> {
     }
 }
 
-/// A count of records or steps.
-fn short(count: u64) -> u32 {
-    count.try_into().expect("no buffer holds so many records, and no schedule so many steps")
+/// A number that the library gives: records, steps, or a mark.
+fn short(count: usize) -> u32 {
+    count.try_into().expect("no answer of document 01 is so large")
 }
 
 fn refusal(code: u32) -> Option<Refusal> {
