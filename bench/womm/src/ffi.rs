@@ -1,7 +1,11 @@
-//! The library's two exports. A slice passes as its pointer, then its length; a number lent has a length's width.
+//! The library's exports. A slice passes as its pointer, then its length; a number lent has a length's width.
 #![allow(unsafe_code)]
 
 extern "C" {
+    fn womm_read(block: *const u8, block_length: usize) -> u32;
+
+    fn womm_write(block: *mut u8, block_length: usize) -> u32;
+
     fn womm_replay(
         block: *const u8,
         block_length: usize,
@@ -21,6 +25,18 @@ extern "C" {
         count: *mut usize,
         cut: *mut usize,
     ) -> u32;
+}
+
+/// Reads a block; gives the code.
+pub fn read(block: &[u8]) -> u32 {
+    // SAFETY: the pointer comes from a live slice and goes with its length.
+    unsafe { womm_read(block.as_ptr(), block.len()) }
+}
+
+/// Makes a block of a buffer that holds one but for its check; gives the code.
+pub fn write(block: &mut [u8]) -> u32 {
+    // SAFETY: as above; `block` is lent to this call alone.
+    unsafe { womm_write(block.as_mut_ptr(), block.len()) }
 }
 
 /// Replays a schedule; gives the code.

@@ -29,6 +29,16 @@ impl Replayer for Library {
     }
 }
 
+/// Whether a block holds a case.
+pub fn read(block: &[u8]) -> Result<(), Refusal> {
+    refusal(ffi::read(block)).map_or(Ok(()), Err)
+}
+
+/// Puts the check behind bytes 0 to 509 of a block. Refused, the block is all zeros.
+pub fn write(block: &mut [u8]) -> Result<(), Refusal> {
+    refusal(ffi::write(block)).map_or(Ok(()), Err)
+}
+
 /// All outcomes within a bound, in byte order.
 #[derive(Clone, Debug, PartialEq, Eq)]
 pub struct Listing {

@@ -23,3 +23,21 @@ fn a_typed_list() {
     assert_eq!(womm::outcomes(&case, 8, 3), Err(Refusal::Room));
     assert_eq!(womm::outcomes(&case, 97, 4), Err(Refusal::Bound));
 }
+
+#[test]
+fn a_block_read_and_written() {
+    let block = shapes::message().build().unwrap().block();
+    assert_eq!(womm::read(&block), Ok(()));
+    let mut open = block;
+    open[510..].fill(0xC7);
+    assert_eq!(womm::read(&open), Err(Refusal::Check));
+    assert_eq!((womm::write(&mut open), open), (Ok(()), block));
+    let mut bad = block;
+    bad[381] = 1;
+    assert_eq!((womm::write(&mut bad), bad), (Err(Refusal::Unused), [0; 512]));
+    for length in (0..600).filter(|&length| length != 512) {
+        let mut other = vec![0xC7; length];
+        assert_eq!(womm::read(&other), Err(Refusal::BlockLength));
+        assert_eq!((womm::write(&mut other), other), (Err(Refusal::BlockLength), vec![0; length]));
+    }
+}
