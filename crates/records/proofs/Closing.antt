@@ -1,7 +1,7 @@
 -- From a buffer that holds the records of P to the list of P. Assumes nothing.
 use mathlib.Core.Path.{_≡_, sym, ap, _∙_, subst}
 use mathlib.Core.Logic.{_↔_}
-use mathlib.Core.Bool.{Bool, true, false, false≢true}
+use mathlib.Core.Bool.{Bool, true}
 use mathlib.Core.List.{List, _++_, List·Memᴰ·not-nil}
 use Prim.Native.Nat.{ℕ, _*_, _-_, _/_, _≤_, _<_}
 use native.Mathlib.Omega.{arith}
@@ -9,10 +9,10 @@ use lib.ListN.{length, replicate, length-replicate}
 use Rattle.words.specs.Small.{concatMap}
 use Rattle.runs.specs.Listing.{RecordsOf, Listed, Refused, IsListOf}
 use Rattle.records.specs.Buffer.{recordsIn, Among, Held}
-use Rattle.records.specs.Growth.{MoreThan, Filled, Joined, Explored}
+use Rattle.records.specs.Growth.{MoreThan, Filled, Joined}
 use Rattle.records.proofs.Ascending.{no-longer}
 use Rattle.records.proofs.Buffer.{records-length, held-bytes}
-use Rattle.records.proofs.Growth.{iff-trans, none-first, more-of}
+use Rattle.records.proofs.Growth.{none-first, more-of}
 
 -- where more than m records pass P, the list of P is longer than m
 pub longer-than : {P : List ℕ → Type 0} {m : ℕ} {rs : List (List ℕ)} → RecordsOf P rs → MoreThan m P → m < length rs
@@ -59,15 +59,3 @@ module _ {P : List ℕ → Type 0} (size : ℕ) {zeros : List ℕ} (cleared : ze
 
   pub filled-more : full ≡ true → MoreThan (size / 96) P
   filled-more z = more-of (λ r. joined-none P zeros r .0) (subst (λ (k : ℕ). MoreThan (k / 96) (Joined zeros 0 P)) length-zeros (x .lacks z))
-
--- a search over a cleared buffer
-module _ {P : List ℕ → Type 0} {C : Type 0} (size : ℕ) {zeros : List ℕ} (cleared : zeros ≡ replicate size 0)
-    {bytes : List ℕ} {n : ℕ} {cut full : Bool} (x : Explored P C zeros 0 false bytes n cut full) where
-  pub explored-listed : full ≡ false → {a : Listed} → a .code ≡ 0 → a .count ≡ n → a .cut ≡ cut → IsListOf P C size a bytes
-  explored-listed z code count mark =
-      let g = x .grown in
-      listed (filled-size size cleared (g .filled)) (g .filled .held z) (λ r. iff-trans (g .members z r) (joined-none P zeros r)) code count
-      (subst (λ (b : Bool). (b ≡ true) ↔ C) (sym mark) (iff-trans (x .marked z) (none-first false≢true)))
-
-  pub explored-unlisted : full ≡ true → {rs : List (List ℕ)} → RecordsOf P rs → {a : Listed} {out : List ℕ} → Refused 11 size a out → IsListOf P C size a out
-  explored-unlisted z right = unlisted right (filled-more size cleared (x .grown .filled) z)

@@ -29,12 +29,3 @@ Joined before n P r = Among before n r ⊎ P r
 pub record Grown (P : List ℕ → Type 0) (before : List ℕ) (n : ℕ) (after : List ℕ) (m : ℕ) (full : Bool) : Type 0 where
   pub filled : Filled (Joined before n P) before after m full
   pub members : full ≡ false → (r : List ℕ) → Among after m r ↔ Joined before n P r
-
--- The mark is set afterwards exactly if it was before or C holds.
-abbrev pub Marked : Type 0 → Bool → Bool → Type 0
-Marked C before after = (after ≡ true) ↔ ((before ≡ true) ⊎ C)
-
--- A search that adds the records of P, and whose cut mark goes from `cut` to `cut′`, set if C.
-pub record Explored (P : List ℕ → Type 0) (C : Type 0) (before : List ℕ) (n : ℕ) (cut : Bool) (after : List ℕ) (m : ℕ) (cut′ full : Bool) : Type 0 where
-  pub grown : Grown P before n after m full
-  pub marked : full ≡ false → Marked C cut cut′

@@ -16,5 +16,4 @@ pub mod Firm
 pub mod Spent
 pub mod Search
 pub mod Sweep
-pub mod Loop
 pub mod Moves

@@ -1,11 +1,9 @@
 -- What a search that leaves out spent steps must try. Assumes nothing.
 use mathlib.Core.Path.{_≡_, refl, sym, _∙_}
 use mathlib.Core.Logic.{_⊎_, inl, inr, ⊎-elim}
-use mathlib.Core.Bool.{true, false, not, false≢true}
+use mathlib.Core.Bool.{true, false, false≢true}
 use mathlib.Core.List.{List}
 use Prim.Native.Nat.{ℕ, zero, suc}
-use borrow.Author.Tests.{not-true}
-use Rattle.words.proofs.Bools.{and-both}
 use Rattle.cases.specs.declared.Case.{Case}
 use Rattle.runs.proofs.Walk.{stop, go}
 use Rattle.rules.specs.Result.{finished, registers}
@@ -14,7 +12,7 @@ use Rattle.rules.specs.Step.{after, stepCode, commit, Step}
 use Rattle.rules.proofs.Accepted.{finished-still}
 use Rattle.sure.specs.Quiet.{quiet}
 use Rattle.sure.specs.Sure.{Sized, sure}
-use Rattle.sure.specs.Spent.{wakes, Key, stepBy, Spent, unwoken, fresh}
+use Rattle.sure.specs.Spent.{wakes, Key, stepBy, Spent, fresh}
 use Rattle.sure.proofs.Good.{Good}
 use Rattle.sure.proofs.Reduce.{Done, Open}
 use Rattle.sure.proofs.Quiet.{Taken, done-read, open-read}
@@ -93,9 +91,6 @@ unspent c P (suc n) s o = false≢true (o .rests)
 -- z is of what is spent by now, and t wakes none of it
 abbrev pub Calm : State → Step → Spent → Spent → Type 0
 Calm s t now z = (a : Key) → z a ≡ true → (now a ≡ true) × (wakes s t a ≡ false)
-
-pub unwoken-calm : (s : State) (t : Step) (sp : Spent) → Calm s t sp (unwoken s t sp)
-unwoken-calm s t sp a h = let w = and-both (sp a) (not (wakes s t a)) h in (w .0, not-true _ (w .1))
 
 -- what a search finds, X, against the runs P
 

@@ -1,13 +1,13 @@
 -- The rules by which code that searches with spent steps is proved: what it has told so far, and what is left to try. Assumes nothing.
 use mathlib.Core.Path.{ap₂, _≡_, refl, sym, _∙_, subst, ap}
 use mathlib.Core.Logic.{_⊎_, inl, inr, ⊎-elim, _↔_}
-use mathlib.Core.Bool.{Bool, true, false, _&&_, _||_, false≢true, not}
+use mathlib.Core.Bool.{Bool, true, false, _||_, false≢true, not}
 use mathlib.Core.List.{List}
 use Prim.Native.Nat.{ℕ, zero, suc, _+_, _-_, _<_}
 use native.Mathlib.Omega.{arith}
-use lib.Dec.{eqb, ltb}
-use borrow.Author.Tests.{eqb-true, ltb-true, ltb-false}
-use Rattle.words.proofs.Bools.{or-cases, and-both, cond-false, decide}
+use lib.Dec.{ltb}
+use borrow.Author.Tests.{ltb-true, ltb-false}
+use Rattle.words.proofs.Bools.{cond-false, decide}
 use Rattle.words.specs.Small.{isNone}
 use Rattle.cases.specs.declared.Case.{Case}
 use Rattle.runs.specs.Outcome.{Outcome, Cut}
@@ -19,10 +19,10 @@ use Rattle.rules.specs.Kinds.{reading, acquiring}
 use Rattle.rules.proofs.Accepted.{can-issue}
 use Rattle.sure.specs.Quiet.{quiet}
 use Rattle.sure.specs.Sure.{Sized, sure, sureKind}
-use Rattle.sure.specs.Spent.{stepBy, taking, Spent, asleep, issuing, Key, restable, fresh, restful}
+use Rattle.sure.specs.Spent.{stepBy, taking, Spent, issuing, Key, fresh, restful}
 use Rattle.sure.proofs.Good.{Good}
 use Rattle.sure.proofs.Reduce.{Done, Open, done-from, done-to, open-from, open-to}
-use Rattle.sure.proofs.Spent.{Rests, Keyed, keyed, Resting, resting, Rested, rested-step, Through, Else, to-front}
+use Rattle.sure.proofs.Spent.{keyed, Resting, resting, Rested, rested-step, Else}
 use Rattle.sure.proofs.Search.{Known, Calm, Runs, Tried, done-runs, open-runs, tried-branch, covers-start, at-end, no-more, unspent}
 use Rattle.sure.proofs.Commit.{CanTake, Commit, source-zero, sees-take, self, the, can-take}
 
@@ -106,41 +106,6 @@ module _ (c : Case) (Z : Sized c) (s : State) (sp : Spent) (K : Known c s) (n : 
   pub rested-after : {now : Spent} → Rested c s now → (t : Step) → stepCode c s t ≡ 0 → (z : Spent) → Calm s t now z → Rested c (after c s t) z
   rested-after R t h z N = rested-step c s (K .reached .good) (K .firm) t h z (λ a x. R a (N a x .0)) (λ a x. N a x .1)
 
-  -- a sure step alone
-  pub told-alone : {B X : Question → Type 0} (t : Step) → stepCode c s t ≡ 0 → sure c (suc n) s t ≡ true → Rested c s sp → (z : Spent) → Calm s t sp z
-      → Told c z (after c s t) n B X → Told c sp s (suc n) B X
-  told-alone t h p R z N W =
-      record {
-        kept = W .kept;
-        sound = λ q x. ⊎-elim (λ b. inl b) (λ d. inr (runs c Z q .later s t n h d)) (W .sound q x);
-        full = λ q d. ⊎-elim (λ x. inl x) (λ o. inr (more q (front q o))) (W .full q (runs c Z q .alone s t n (K .reached) h p d));
-      }
-    where
-      -- a spent step of the branch moves before t
-      front : (q : Question) → Else c z (Run c q) (after c s t) n → Through c z (λ x. Run c q x n) s
-      front q =
-          to-front c s (K .reached .good) (K .firm) t h z (λ a x. R a (N a x .0)) (λ a x. N a x .1)
-          (Run c q) (λ y m. runs c Z q .later y t m) (runs c Z q .alike) n
-
-      more : (q : Question) → Through c z (λ x. Run c q x n) s → Through c sp (λ x. Run c q x n) s
-      more q o = record { key = o .key; rests = N (o .key) (o .rests) .0; fits = o .fits; then′ = o .then′ }
-
-  -- a sure step that is spent: nothing is left to find
-  pub told-dead : {B : Question → Type 0} (t : Step) → stepCode c s t ≡ 0 → sure c (suc n) s t ≡ true → asleep sp t ≡ true → Told c sp s (suc n) B B
-  told-dead t h p e = record { kept = λ q b. b; sound = λ q b. inl b; full = λ q d. inr (itself q (runs c Z q .alone s t n (K .reached) h p d)) }
-    where
-      k : Keyed s t
-      k = keyed c s t h
-
-      itself : (q : Question) → Run c q (after c s t) n → Through c sp (λ x. Run c q x n) s
-      itself q d =
-          record {
-            key = k .key;
-            rests = sym (k .sleeps sp) ∙ e;
-            fits = subst (λ (u : Step). stepCode c s u ≡ 0) (k .names) h;
-            then′ = subst (λ (u : Step). Run c q (after c s u) n) (k .names) d;
-          }
-
   -- the loop starts
   pub sweep-start : {B : Question → Type 0} → Rested c s sp → Sweep c sp s n sp B B
   sweep-start {B} R =
@@ -172,17 +137,6 @@ module _ (c : Case) (Z : Sized c) (s : State) (sp : Spent) (K : Known c s) (n : 
       pub sweep-lacks : (q : Question) → X q ⊎ Run c q (after c s t) n → B q ⊎ Run c q s (suc n)
       sweep-lacks q w = ⊎-elim (S .sound q) (λ d. inr (runs c Z q .later s t n h d)) w
 
-    -- `more` are spent from now on: accepted commits of reads and acquires, and issues, that are done with
-    pub sweep-note : (more : Spent) → ((a : Key) → more a ≡ true → (now a ≡ true) ⊎ (Resting c s a × Tested c sp s n X (stepBy s a)))
-        → Sweep c sp s n more B X
-    sweep-note more N =
-        record {
-          rested = λ a h. ⊎-elim (S .rested a) (λ w. w .0) (N a h);
-          kept = S .kept;
-          sound = S .sound;
-          covered = λ a h y. ⊎-elim (λ x. S .covered a x y) (λ w. w .1) (N a h);
-        }
-
     -- one turn of the loop: the branch of the key a, which is spent from then on
     pub sweep-turn : (a : Key) → stepCode c s (stepBy s a) ≡ 0 → restful s a ≡ true → (z : Spent) → Calm s (stepBy s a) now z
         → {Y : Question → Type 0} → Told c z (after c s (stepBy s a)) n X Y
@@ -196,22 +150,6 @@ module _ (c : Case) (Z : Sized c) (s : State) (sp : Spent) (K : Known c s) (n : 
           sound = S′ .sound;
           covered = λ b x y. ⊎-elim (λ m. S′ .covered b m y) (λ e. subst (λ (b : Key). Tested c sp s n Y (stepBy s b)) (sym e) (new .1)) (M b x);
         }
-
-    -- the same for a row: the sources v of action k
-    pub sweep-row : (k : ℕ) (v : ℕ → Bool) (more : Spent) → restable (kindOf (s .actions k)) ≡ true
-        → ((j e : ℕ) → more (taking j e) ≡ (now (taking j e) || (eqb j k && v e))) → ((p : ℕ) → more (issuing p) ≡ now (issuing p))
-        → ((e : ℕ) → v e ≡ true → (stepCode c s (stepBy s (taking k e)) ≡ 0) × Tested c sp s n X (stepBy s (taking k e))) → Sweep c sp s n more B X
-    sweep-row k v more r E I T = sweep-note more old
-      where
-        new : (j e : ℕ) → (eqb j k && v e) ≡ true → Rests c s j e × Tested c sp s n X (stepBy s (taking j e))
-        new j e x =
-            let w = and-both (eqb j k) (v e) x in
-            let y = T e (w .1) in
-            subst (λ (i : ℕ). Rests c s i e × Tested c sp s n X (stepBy s (taking i e))) (sym (eqb-true j k (w .0))) (resting c s (taking k e) (y .0) r, y .1)
-
-        old : (a : Key) → more a ≡ true → (now a ≡ true) ⊎ (Resting c s a × Tested c sp s n X (stepBy s a))
-        old (taking j e) h = ⊎-elim (λ x. inl x) (λ x. inr (new j e x)) (or-cases (now (taking j e)) (eqb j k && v e) (sym (E j e) ∙ h))
-        old (issuing p) h = inl (sym (I p) ∙ h)
 
     -- a step that is spent by now is done with
     settle : (a : Key) → stepCode c s (stepBy s a) ≡ 0 → (now a ≡ true) ⊎ Tested c sp s n X (stepBy s a) → Tested c sp s n X (stepBy s a)

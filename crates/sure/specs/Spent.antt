@@ -1,5 +1,5 @@
 -- Spent steps: steps whose branch a search has been through, so that it may leave them out later on. Assumes nothing.
-use mathlib.Core.Bool.{Bool, true, false, not, _&&_, _||_}
+use mathlib.Core.Bool.{Bool, true, false, _&&_, _||_}
 use Prim.Native.Nat.{ℕ, suc}
 use lib.Dec.{eqb, leb}
 use Rattle.rules.specs.Kinds.{reading, acquiring}
@@ -51,7 +51,3 @@ wakes s (issue p) (issuing q) = eqb q p || leb 48 (suc (s .count))
 wakes s (commit p j f) (taking k e) = rivals s (s .actions j) (s .actions k)
 wakes s (commit p j f) (issuing q) = false
 wakes s neither a = false
-
--- What is spent and is not woken by the step.
-abbrev pub unwoken : State → Step → Spent → Spent
-unwoken s t sp a = sp a && not (wakes s t a)
