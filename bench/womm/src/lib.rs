@@ -17,7 +17,7 @@ impl Lister for Library {
     fn outcomes(&self, block: &[u8], bound: u32, records: &mut [u8]) -> Listed {
         let (mut count, mut cut) = (0, 0);
         let code = ffi::outcomes(block, bound, records, &mut count, &mut cut);
-        Listed { code, count: short(count), cut: cut != 0 }
+        Listed { code, count: short(count), cut: mark(cut) }
     }
 }
 
@@ -79,7 +79,13 @@ pub fn replay(case: &Case, steps: &[Step]) -> Result<Replay, Refusal> {
     }
 }
 
-/// A number that the library gives: records, steps, or a mark.
+/// A mark that the library gives: 1 for yes, 0 for no.
+fn mark(number: usize) -> bool {
+    assert!(number < 2, "the library gave {number} for a mark");
+    number == 1
+}
+
+/// A number that the library gives: records or steps.
 fn short(count: usize) -> u32 {
     count.try_into().expect("no answer of document 01 is so large")
 }

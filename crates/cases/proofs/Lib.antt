@@ -8,4 +8,5 @@ pub mod Slots
 pub mod Ranges
 pub mod Held
 pub mod Kept
+pub mod Signed
 pub mod RoundTrip

@@ -1,12 +1,13 @@
 -- Reading and writing undo each other, both ways; each answer is the only one. Assumes nothing.
 use mathlib.Core.Path.{_≡_, refl, ap, sym, _∙_, subst}
 use mathlib.Core.Logic.{_↔_}
+use mathlib.Core.Bool.{false, not}
 use mathlib.Core.List.{List, _++_}
-use Prim.Native.Nat.{ℕ, zero, suc, _+_, _*_, _<_}
+use Prim.Native.Nat.{ℕ, zero, suc, _<_}
 use native.Mathlib.Omega.{arith}
 use lib.Dec.{eqb}
-use lib.ListN.{length, getD, take, replicate, length-append, List·getD-append}
-use lib.Seq.{take-all, getD-take, getD-append-add}
+use lib.ListN.{length, getD, take, replicate}
+use lib.Seq.{take-all, length-take-le, getD-take}
 use borrow.Author.Tests.{eqb-true, eq-eqb, not-false}
 use Rattle.words.specs.Refusals.{firstOf}
 use Rattle.words.proofs.Bools.{cond-true}
@@ -17,11 +18,10 @@ use Rattle.cases.specs.Instruction.{two}
 use Rattle.cases.specs.Block.{word, check, faults, refusals, caseOf, readOf, answered, contents, blockOf, Sound, sealCode, sealed, writeCode, written}
 use Rattle.cases.specs.Formed.{Bytes, Formed, Held}
 use Rattle.cases.proofs.Agree.{faults-same, check-same}
-use Rattle.cases.proofs.Decoding.{read-accepted, past-check}
 use Rattle.cases.proofs.Held.{clean, contents-back, word-part}
 use Rattle.cases.proofs.Kept.{case-same, contents-long, contents-kept}
 use Rattle.cases.proofs.Ranges.{block-bytes}
-use Rattle.cases.proofs.Slots.{two-back}
+use Rattle.cases.proofs.Signed.{signed-read}
 
 -- what code 0 says of a block
 pub record Accepted (s : List ℕ) : Type 0 where
@@ -68,13 +68,15 @@ module _ (s : List ℕ) (bytes : Bytes s) (a : Accepted s) where
   case-sound : Sound (caseOf s)
   case-sound = faults-same (contents (caseOf s)) s agrees ∙ a .sound
 
-  block-back : blockOf (caseOf s) ≡ s
-  unfolding blockOf
-  block-back =
-      (λ t. front t ++ two (check-same (contents (caseOf s)) s agrees t))
-      ∙ ap (λ (n : ℕ). take 510 s ++ two n) (sym (a .checked))
+  signed-back : take 510 s ++ two (check s) ≡ s
+  signed-back =
+      ap (λ (n : ℕ). take 510 s ++ two n) (sym (a .checked))
       ∙ sym (word-part s (a .long) bytes (clean s (a .sound)) 510 (omega arith))
       ∙ take-all 512 s (omega (arith, a .long))
+
+  block-back : blockOf (caseOf s) ≡ s
+  unfolding blockOf
+  block-back = (λ t. front t ++ two (check-same (contents (caseOf s)) s agrees t)) ∙ signed-back
 
 -- A block that is read with code 0 and written again is the same 512 bytes.
 pub written-read : (s : List ℕ) → Bytes s → readOf s .code ≡ 0 → (writeCode (readOf s .case) 512 ≡ 0) × (written (readOf s .case) 512 ≡ s)
@@ -91,26 +93,9 @@ module _ (c : Case) (f : Formed c) where
   long : length (contents c) ≡ 510
   long = contents-long c (f .counts .0) (f .masks .0) (f .presets .0) (f .memory .0) (f .code .0)
 
-  below : (i : ℕ) → i < 510 → getD (blockOf c) i 0 ≡ getD (contents c) i 0
-  unfolding blockOf
-  below i h = List·getD-append (contents c) (two (check (contents c))) 0 i (omega (arith, long))
-
-  above : (i : ℕ) → getD (blockOf c) (510 + i) 0 ≡ getD (two (check (contents c))) i 0
-  unfolding blockOf
-  above i = ap (λ (n : ℕ). getD (blockOf c) (n + i) 0) (sym long) ∙ getD-append-add (contents c) (two (check (contents c))) i 0
-
-  block-long : length (blockOf c) ≡ 512
-  unfolding blockOf
-  block-long = length-append (contents c) (two (check (contents c))) ∙ ap (λ (n : ℕ). n + 2) long
-
-  block-check : word (blockOf c) 510 ≡ check (blockOf c)
-  block-check = (λ t. above 0 t + 256 * above 1 t) ∙ two-back (check (contents c)) ∙ sym (check-same (blockOf c) (contents c) below)
-
   block-read : Sound c → readOf (blockOf c) ≡ record { code = 0; case = c }
-  block-read h =
-      let code = sym (past-check (blockOf c) block-long block-check) ∙ faults-same (blockOf c) (contents c) below ∙ h in
-      let kept = case-same (blockOf c) (contents c) below ∙ contents-kept c (f .counts .0) (f .masks .0) (f .presets .0) (f .memory .0) (f .code .0) in
-      sym (read-accepted (blockOf c) 0 c (sym code) refl (sym kept))
+  unfolding blockOf
+  block-read h = signed-read (contents c) long h ∙ (λ t. record { code = 0; case = contents-kept c (f .counts .0) (f .masks .0) (f .presets .0) (f .memory .0) (f .code .0) t })
 
   -- A record that is written with code 0 and read again is the same record.
   pub read-written : writeCode c 512 ≡ 0 → readOf (written c 512) ≡ record { code = 0; case = c }
@@ -122,6 +107,39 @@ module _ (c : Case) (f : Formed c) where
     λ h. record { block = blockOf c; bytes = block-bytes c f; read = block-read h },
     λ h. let a = accepted (h .block) (ap (λ (r : CaseRead). r .code) (h .read)) in subst Sound (sym (a .held) ∙ ap (λ (r : CaseRead). r .case) (h .read)) (case-sound (h .block) (h .bytes) a),
   )
+
+-- a buffer that is sealed
+
+module _ (s : List ℕ) where
+  code-split : sealCode s ≡ 0 → (not (eqb (length s) 512) ≡ false) × (firstOf (faults s) ≡ 0)
+  unfolding sealCode
+  code-split h = first-none 0 _ _ h
+
+  code-zero : length s ≡ 512 → firstOf (faults s) ≡ 0 → sealCode s ≡ 0
+  unfolding sealCode firstOf
+  code-zero long h = rw (eq-eqb (length s) 512 long) h
+
+  sealed-is : sealCode s ≡ 0 → sealed s ≡ take 510 s ++ two (check s)
+  unfolding sealed
+  sealed-is h = cond-true (eqb (sealCode s) 0) (take 510 s ++ two (check s)) (replicate (length s) 0) (eq-eqb (sealCode s) 0 h)
+
+  same : (i : ℕ) → i < 510 → getD (take 510 s) i 0 ≡ getD s i 0
+  same i h = getD-take 510 s i 0 h
+
+  -- A buffer that is sealed with code 0 is a block, and holds the case that the buffer held.
+  pub read-sealed : sealCode s ≡ 0 → readOf (sealed s) ≡ record { code = 0; case = caseOf s }
+  read-sealed h =
+      let long : length s ≡ 512 = eqb-true (length s) 512 (not-false _ (code-split h .0)) in
+      ap readOf (sealed-is h ∙ ap (λ (n : ℕ). take 510 s ++ two n) (sym (check-same (take 510 s) s same)))
+      ∙ signed-read (take 510 s) (length-take-le 510 s (omega (arith, long))) (faults-same (take 510 s) s same ∙ code-split h .1)
+      ∙ (λ t. record { code = 0; case = case-same (take 510 s) s same t })
+
+  -- A block that is read with code 0 is sealed with code 0, and stays as it is.
+  pub sealed-read : Bytes s → readOf s .code ≡ 0 → (sealCode s ≡ 0) × (sealed s ≡ s)
+  sealed-read bytes h =
+      let a = accepted s h in
+      let code = code-zero (a .long) (a .sound) in
+      (code, sealed-is code ∙ signed-back s bytes a)
 
 -- At most one answer is right for a block.
 pub read-unique : (s : List ℕ) (r r′ : CaseRead) → r ≡ readOf s → r′ ≡ readOf s → r ≡ r′

@@ -1,1 +1,1 @@
-mod Marks
+mod One

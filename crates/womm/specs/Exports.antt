@@ -1,17 +1,36 @@
--- The numbers that the exports hand back, as answers. Assumes nothing.
+-- What each export hands back, its code, its numbers and its bytes, as one statement. Assumes nothing.
 use mathlib.Core.Path.{_≡_}
+use mathlib.Core.Bool.{Bool, cond}
 use mathlib.Core.List.{List}
 use Prim.Native.Nat.{ℕ}
-use lib.Dec.{eqb}
+use Rattle.cases.specs.Block.{readOf, sealCode, sealed}
 use Rattle.runs.specs.Listing.{Listed}
-use Rattle.replaying.specs.Answer.{Answer}
+use Rattle.replaying.specs.Answer.{replayed}
+use Rattle.listing.specs.Outcomes.{IsOutcomes}
 
--- A replay's answer, handed back as the code, the number of steps and the bytes.
-pub record Answered (a : Answer) (r n : ℕ) (out : List ℕ) : Type 0 where
-  pub code : r ≡ a .code
-  pub steps : n ≡ a .steps
-  pub bytes : out ≡ a .bytes
+-- A mark as a number: 1 for yes, 0 for no.
+abbrev pub markOf : Bool → ℕ
+markOf b = cond b 1 0
 
--- A list's answer from its code, its count and its cut mark, 1 for yes.
-abbrev pub listedAs : ℕ → ℕ → ℕ → Listed
-listedAs code count cut = record { code = code; count = count; cut = eqb cut 1 }
+-- A block is read: its code r.
+pub record ReadAs (block : List ℕ) (r : ℕ) : Type 0 where
+  pub code : r ≡ readOf block .code
+
+-- A block is written: its code r, and the bytes out that the buffer then holds.
+pub record WrittenAs (block : List ℕ) (r : ℕ) (out : List ℕ) : Type 0 where
+  pub code : r ≡ sealCode block
+  pub bytes : out ≡ sealed block
+
+-- A schedule is replayed, with a result buffer of this size: the code r, n steps taken, the result's bytes out.
+pub record ReplayedAs (block schedule : List ℕ) (size r n : ℕ) (out : List ℕ) : Type 0 where
+  pub code : r ≡ replayed block schedule size .code
+  pub steps : n ≡ replayed block schedule size .steps
+  pub bytes : out ≡ replayed block schedule size .bytes
+
+-- The outcomes are listed, into a buffer of this size: the code r, the count n, the cut mark x, the buffer's bytes out.
+pub record ListedAs (block : List ℕ) (bound size r n x : ℕ) (out : List ℕ) : Type 0 where
+  pub answer : Listed
+  pub list : IsOutcomes block bound size answer out
+  pub code : r ≡ answer .code
+  pub count : n ≡ answer .count
+  pub cut : x ≡ markOf (answer .cut)

@@ -1,15 +1,11 @@
 // The library for a host in another language: byte slices and numbers.
-ghost use mathlib.Core.Path.{_≡_};
 ghost use lib.ListN.{length};
-ghost use Rattle.cases.specs.Block.{readOf, sealCode, sealed};
-ghost use Rattle.replaying.specs.Answer.{replayed};
-ghost use Rattle.listing.specs.Outcomes.{IsOutcomes};
-ghost use Rattle.womm.specs.Exports.{listedAs, Answered};
+ghost use Rattle.womm.specs.Exports.{ReadAs, WrittenAs, ReplayedAs, ListedAs};
 
 // Reads a block: 0 where it holds a case, else the first of codes 1 to 7.
 #[no_mangle]
 pub extern "C" fn womm_read(block: &[u8]) -> u32
-    ensures { λ r. ⌜ r ≡ readOf (now (block .entry)) .code ⌝ }
+    ensures { λ r. ⌜ ReadAs (now (block .entry)) r ⌝ }
 {
     let read = cases::read_case(block);
     read.code as u32
@@ -18,7 +14,7 @@ pub extern "C" fn womm_read(block: &[u8]) -> u32
 // Writes a block: the buffer holds a case in bytes 0 to 509, as the block's table lays it out, and gets its check. Refused, it is all zeros.
 #[no_mangle]
 pub extern "C" fn womm_write(block: &mut [u8]) -> u32
-    ensures { λ r. ⌜ (r ≡ sealCode (now (block .entry))) × (now (block .exit) ≡ sealed (now (block .entry))) ⌝ }
+    ensures { λ r. ⌜ WrittenAs (now (block .entry)) r (now (block .exit)) ⌝ }
 {
     cases::seal(block) as u32
 }
@@ -31,7 +27,7 @@ pub extern "C" fn womm_replay(
     result: &mut [u8],
     steps: &mut usize,
 ) -> u32
-    ensures { λ r. ⌜ Answered (replayed (now (block .entry)) (now (schedule .entry)) (length (now (result .entry)))) r (now (steps .exit)) (now (result .exit)) ⌝ }
+    ensures { λ r. ⌜ ReplayedAs (now (block .entry)) (now (schedule .entry)) (length (now (result .entry))) r (now (steps .exit)) (now (result .exit)) ⌝ }
 {
     let replayed = replaying::replay(block, schedule, result);
     *steps = replayed.steps;
@@ -47,7 +43,7 @@ pub extern "C" fn womm_outcomes(
     count: &mut usize,
     cut: &mut usize,
 ) -> u32
-    ensures { λ r. ⌜ IsOutcomes (now (block .entry)) bound (length (now (records .entry))) (listedAs r (now (count .exit)) (now (cut .exit))) (now (records .exit)) ⌝ }
+    ensures { λ r. ⌜ ListedAs (now (block .entry)) bound (length (now (records .entry))) r (now (count .exit)) (now (cut .exit)) (now (records .exit)) ⌝ }
 {
     let listed = listing::outcomes(block, bound, records);
     *count = listed.count;

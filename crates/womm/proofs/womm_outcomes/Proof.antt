@@ -1,11 +1,16 @@
-use mathlib.Core.Path.{subst}
-use lib.ListN.{length}
-use Rattle.runs.specs.Listing.{Listed}
-use Rattle.listing.specs.Outcomes.{IsOutcomes}
-use Rattle.womm.proofs.Marks.{marked}
+-- A cut mark as the number that stands for it.
+use mathlib.Core.Path.{_≡_, refl}
+use mathlib.Core.Bool.{Bool, true, false}
+use mir.Val.{boolByte}
+use Rattle.listing.specs.Outcomes.{answerOf}
+use Rattle.womm.specs.Exports.{markOf}
 use borrow.Author.Needs.{needs}
 use Rattle.womm.proofs.womm_outcomes.Statement.{statement}
 use Rattle.womm.proofs.womm_outcomes.Tie as tie
+
+mark : (b : Bool) → boolByte b ≡ markOf b
+mark true = refl
+mark false = refl
 
 outcomes-requires : tie.Need-outcomes-requires
 outcomes-requires c κs = search needs
@@ -21,9 +26,8 @@ same-length c = search needs
 
 returns : tie.Need-returns
 returns c =
-    let at = c .before .before .before .before in
-    let a = at .before .before .before .before .args in
-    subst (λ (x : Listed). IsOutcomes (a .block .now) (a .bound) (length (a .records .now)) x (at .outcomes .last .1 .1 .0)) (marked (at .outcomes .result)) (at .outcomes .ensures)
+    let outcomes = c .before .before .before .before .outcomes in
+    record { answer = answerOf (outcomes .result); list = outcomes .ensures; code = refl; count = refl; cut = mark (outcomes .result .cut) }
 
 pub womm-outcomes-spec : {M : Type 1} → statement M
 womm-outcomes-spec =

@@ -11,7 +11,7 @@ cast-result : tie.Need-cast-result
 cast-result c = search needs
 
 returns : tie.Need-returns
-returns c = ap (λ (r : CaseRead). r .code) (c .before .read-case .ensures)
+returns c = record { code = ap (λ (r : CaseRead). r .code) (c .before .read-case .ensures) }
 
 pub womm-read-spec : {M : Type 1} → statement M
 womm-read-spec = tie.close (tie.spec read-case-requires cast-result returns)
