@@ -270,11 +270,11 @@ impl<'a> Machine<'a> {
     }
 }
 
-/// Whether an earlier uncommitted action of the same processor holds back this one.
+/// Whether an earlier uncommitted action of the same processor holds back this one. An acquire holds back
+/// whatever comes after it: request 03.
 fn waits_for(action: &Action, earlier: &Action) -> bool {
     use Instr::*;
     match (action.instr, earlier.instr) {
-        (Branch { .. } | Goto { .. }, _) => false,
         (Release { .. }, _) | (_, Acquire { .. }) => true,
         (Acquire { .. }, Release { .. }) => true,
         (Read { .. }, Write { .. }) => action.location == earlier.location,

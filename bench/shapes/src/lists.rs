@@ -39,7 +39,7 @@ impl Shape {
 
 /// Every shape, those of document 01 first.
 pub fn lists() -> Vec<Shape> {
-    [scope(), relaxed(), one_location(), wide(), dependent(), spinning()].concat()
+    [scope(), relaxed(), one_location(), wide(), dependent(), spinning(), behind_the_lock()].concat()
 }
 
 /// Document 01's list.
@@ -213,5 +213,22 @@ fn spinning() -> Vec<Shape> {
         two.clone().with("two-spin-14", 14, true, both.clone()),
         two.clone().with("two-spin-20", 20, true, both.clone()),
         two.with("two-spin-53", 53, true, both),
+    ]
+}
+
+/// Request 03: behind an acquire that never commits, a branch waits at once, and gotos pile up until 48 actions
+/// are issued. By document 01's first table both would go round for as long as the bound lets them.
+fn behind_the_lock() -> Vec<Shape> {
+    let none = BTreeSet::new;
+    let branches = ends("lock-M-branch", usual(1, &[&[acquire(1), branch(1, 1)]]), &[], none());
+    let gotos = ends("lock-M-goto", usual(1, &[&[acquire(1), goto(1)]]), &[], none());
+    let looks = [acquire(0), read(2, 1), branch(2, 4), set(3, 7), release(0)];
+    let flag = usual(2, &[&[acquire(0), write(1, 1), release(0)], &looks]).preset(1, 3, 0);
+    vec![
+        branches.clone().with("lock-M-branch-2", 2, true, none()),
+        branches.with("lock-M-branch-10", 10, false, none()),
+        gotos.clone().with("lock-M-goto-48", 48, true, none()),
+        gotos.with("lock-M-goto-49", 49, false, none()),
+        ends("lock-and-branch", flag, &[(1, 2), (1, 3)], rows(&[&[0, 7], &[1, 0]])),
     ]
 }

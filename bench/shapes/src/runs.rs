@@ -42,7 +42,7 @@ fn alone(program: &[Instr]) -> CaseBuilder {
 
 /// Every run, those of document 01 and source 000 first.
 pub fn runs() -> Vec<Run> {
-    [scope(), bad_steps(), refused_issues(), refused_commits(), hidden(), refused_inputs()].concat()
+    [scope(), bad_steps(), refused_issues(), refused_commits(), behind_the_lock(), hidden(), refused_inputs()].concat()
 }
 
 fn scope() -> Vec<Run> {
@@ -92,11 +92,30 @@ fn refused_commits() -> Vec<Run> {
         run("read-past-write", alone(&[write(0, 1), read(2, 0)]), &[issue(0), issue(0), take(0, 1, 0)], 28),
         run("read-past-acquire", alone(&[acquire(0), read(2, 0)]), &[issue(0), issue(0), take(0, 1, 0)], 28),
         run("release-past-goto", alone(&[goto(1), release(0)]), &[issue(0), issue(0), commit(0, 1)], 28),
-        run("goto-past-acquire", alone(&[acquire(0), goto(2)]), &[issue(0), issue(0), commit(0, 1)], 0),
         run("write-past-read", alone(&[read(2, 0), write(0, 1)]), &[issue(0), issue(0), commit(0, 1)], 0),
         run("value-undefined", alone(&[write(0, 2)]), &[issue(0), commit(0, 0)], 29),
         run("release-of-free", alone(&[release(0)]), &[issue(0), commit(0, 0)], 31),
         run("acquire-of-held", two(&[acquire(0)], &[acquire(0)]), &held, 31),
+    ]
+}
+
+/// Request 03: a branch or goto waits for every acquire issued before it, of whatever location, and for nothing else.
+fn behind_the_lock() -> Vec<Run> {
+    let past = [issue(0), issue(0), commit(0, 1)];
+    let past_the_second = [issue(0), commit(0, 0), issue(0), issue(0), commit(0, 2)];
+    let after = [issue(0), issue(0), commit(0, 0), commit(0, 1)];
+    let (branches, gotos) = (alone(&[acquire(0), branch(1, 0)]), alone(&[acquire(0), goto(2)]));
+    let two = usual(2, &[&[acquire(0), acquire(1), branch(1, 3)]]);
+    let undefined = alone(&[acquire(0), branch(2, 0), set(2, 1)]);
+    vec![
+        run("branch-past-acquire", branches.clone(), &past, 28),
+        run("goto-past-acquire", gotos.clone(), &past, 28),
+        run("branch-past-second-acquire", two, &past_the_second, 28),
+        run("goto-past-release", alone(&[acquire(0), release(0), goto(3)]), &past_the_second, 0),
+        run("branch-after-acquire", branches.clone(), &after, 0),
+        run("goto-after-acquire", gotos, &after, 0),
+        run("branch-source-past-acquire", branches, &[issue(0), issue(0), take(0, 1, 1)], 27),
+        run("branch-undefined-past-acquire", undefined, &past, 28),
     ]
 }
 

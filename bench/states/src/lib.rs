@@ -1,4 +1,4 @@
-//! An enumerator of WOMM's states, written from document 01 and source 000 alone.
+//! An enumerator of WOMM's states, written from documents 01 and 02 and source 000 alone.
 //!
 //! Breadth first, a level a step. An action is named by its processor and its index in that
 //! processor's issue order, so that runs which differ only in how they interleave meet in one state.

@@ -265,7 +265,7 @@ impl State {
     }
 }
 
-/// The table of what holds back a commit: `earlier` is uncommitted and of the same processor.
+/// The table of what holds back a commit, as request 03 mends it: `earlier` is uncommitted and of the same processor.
 fn holds_back(earlier: &Action, action: &Action) -> bool {
     let acquire = matches!(earlier.instr, Instr::Acquire { .. });
     match action.instr {
@@ -275,8 +275,8 @@ fn holds_back(earlier: &Action, action: &Action) -> bool {
         }
         Instr::Write { .. } | Instr::Set { .. } => acquire,
         Instr::Add { .. } | Instr::Sub { .. } | Instr::Equal { .. } => acquire,
+        Instr::Branch { .. } | Instr::Goto { .. } => acquire,
         Instr::Acquire { .. } => earlier.instr.is_sync(),
         Instr::Release { .. } => true,
-        Instr::Branch { .. } | Instr::Goto { .. } => false,
     }
 }

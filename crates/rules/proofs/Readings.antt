@@ -5,18 +5,21 @@ use Rattle.words.specs.Small.{all, someBelow}
 use Rattle.words.specs.Refusals.{firstOf}
 use Rattle.cases.specs.Block.{bad3, bad4, bad5, bad6, zero5, badByte, contents}
 use Rattle.runs.specs.Replay.{replay}
+use Rattle.runs.proofs.Search.{search, cuts}
 use Rattle.rules.specs.Kinds.{heldBy}
 use Rattle.rules.specs.Order.{joined, joinedIf}
 use Rattle.rules.specs.Issue.{issueRefusals, issued}
 use Rattle.rules.specs.Commit.{visible, commitRefusals, committed}
 use Rattle.rules.specs.Step.{stepCode, after}
+use Rattle.rules.specs.Result.{finished, registers}
 use Rattle.rules.specs.Claims.{Every, Holds}
 use Rattle.rules.specs.Readings.{readings}
+use Rattle.rules.proofs.Candidates.{candidates}
 use Rattle.rules.proofs.Quick.{quick}
 use Rattle.rules.proofs.Rows.{test, every}
 
 computed : all test readings ≡ true
-unfolding test quick bad3 bad4 bad5 bad6 zero5 badByte contents someBelow firstOf replay heldBy joined joinedIf issueRefusals issued visible commitRefusals committed stepCode after
+unfolding test quick bad3 bad4 bad5 bad6 zero5 badByte contents someBelow firstOf replay search cuts candidates heldBy joined joinedIf issueRefusals issued visible commitRefusals committed stepCode after finished registers
 computed = refl
 
 pub readings-hold : Every Holds readings

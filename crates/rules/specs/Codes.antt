@@ -44,7 +44,7 @@ issues =
     ∷ replays (beside (Write 1 0 ∷ [])) (following 0) 0 25
     ∷ []
 
--- '26 no such action in this processor's queue; 27 byte 3 not zero and not a read; 28 held back by the table.'
+-- '26 no such action in this processor's queue; 27 byte 3 not zero and not a read; 28 held back by the table', with request 03's rows.
 abbrev pub queued : List Claim
 queued =
     replays (alone []) (commit 0 0 1 ∷ []) 0 26
@@ -55,6 +55,8 @@ queued =
     ∷ replays (alone (Acquire 0 ∷ Acquire 1 ∷ [])) (second 0) 2 28
     ∷ replays (alone (Goto 1 ∷ Release 0 ∷ [])) (second 0) 2 28
     ∷ replays (alone (Acquire 0 ∷ Read 2 0 ∷ [])) (second 9) 2 28
+    ∷ replays (alone (Acquire 0 ∷ Branch 1 0 ∷ [])) (second 0) 2 28
+    ∷ replays (alone (Acquire 0 ∷ Goto 0 ∷ [])) (second 0) 2 28
     ∷ []
 
 -- '29 a register it reads is undefined; 30 acquire or release of a location not below M; 31 acquire while another holds it, or release

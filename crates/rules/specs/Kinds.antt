@@ -38,6 +38,10 @@ acquiring k = eqb k 6
 abbrev pub releasing : ℕ → Bool
 releasing k = eqb k 7
 
+-- A branch or a goto.
+abbrev pub jumping : ℕ → Bool
+jumping k = branching k || eqb k 5
+
 -- A read or a write.
 abbrev pub accesses : ℕ → Bool
 accesses k = reading k || writing k
@@ -94,10 +98,11 @@ evaluate (Difference a b) x y = (x + (65536 - y)) % 65536
 evaluate (Equal a b) x y = cond (eqb x y) 1 0
 
 -- 'Which earlier uncommitted actions of the same processor hold back a commit, as a table by kind': one of kind q holds back
--- the commit of one of kind k; the last argument says whether the two have the same location.
+-- the commit of one of kind k; the last argument says whether the two have the same location. Request 03: 'branch and goto are now
+-- held back by an acquire'.
 unfoldable pub heldBy : ℕ → ℕ → Bool → Bool
 heldBy k q same =
     (reading k && (acquiring q || (writing q && same)))
-    || ((writing k || computing k) && acquiring q)
+    || ((writing k || computing k || jumping k) && acquiring q)
     || (acquiring k && (acquiring q || releasing q))
     || releasing k

@@ -1,13 +1,13 @@
--- Document 01, 'Wrong readings to shut out': small cases where the right and the wrong reading differ. Assumes nothing.
+-- Document 01, 'Wrong readings to shut out', and request 03: small cases where the right and the wrong reading differ. Assumes nothing.
 use mathlib.Core.Bool.{true, false}
 use mathlib.Core.List.{List, [], _∷_, _++_}
 use mathlib.Core.Option.{some}
 use Rattle.cases.specs.declared.Case.{Case}
-use Rattle.cases.specs.declared.Instr.the-variants.{Read, Write, Local, Acquire, Release}
+use Rattle.cases.specs.declared.Instr.the-variants.{Read, Write, Local, Branch, Goto, Acquire, Release}
 use Rattle.cases.specs.declared.Expr.the-variants.{Constant, Sum}
 use Rattle.rules.specs.Step.{Step, issue, commit}
 use Rattle.rules.specs.Building.{plain, alone}
-use Rattle.rules.specs.Claims.{Claim, replays, leaves, orders}
+use Rattle.rules.specs.Claims.{Claim, lists, replays, finishes, leaves, orders}
 
 -- Processor 0 writes 1 to x, processor 1 reads x.
 abbrev pub passed : Case
@@ -57,5 +57,15 @@ acquired =
     ∷ leaves locked (early ++ (commit 1 4 9 ∷ [])) 1 2 (some 1)
     ∷ []
 
+-- Request 03, 'branches must wait for the lock': an acquire of location M never commits, so nothing after it does, and no run has a
+-- third step; past the lock a branch or a goto commits.
+abbrev pub jumped : List Claim
+jumped =
+    lists (alone (Acquire 1 ∷ Branch 1 0 ∷ [])) 3 [] false
+    ∷ lists (alone (Acquire 1 ∷ Goto 2 ∷ [])) 3 [] false
+    ∷ finishes (alone (Acquire 0 ∷ Branch 1 2 ∷ [])) (issue 0 ∷ issue 0 ∷ commit 0 0 0 ∷ commit 0 1 0 ∷ [])
+    ∷ finishes (alone (Acquire 0 ∷ Goto 2 ∷ [])) (issue 0 ∷ issue 0 ∷ commit 0 0 0 ∷ commit 0 1 0 ∷ [])
+    ∷ []
+
 abbrev pub readings : List Claim
-readings = older ++ (valueless ++ (bound ++ (own ++ acquired)))
+readings = older ++ (valueless ++ (bound ++ (own ++ (acquired ++ jumped))))

@@ -13,13 +13,13 @@ use Rattle.cases.specs.Case.{instrAt, countOf}
 use Rattle.cases.specs.declared.Instr.the-variants.{Empty, Read, Write, Local, Branch, Goto, Acquire, Release}
 use Rattle.cases.specs.declared.Instr.{Instr}
 use Rattle.cases.specs.declared.Case.{Case}
-use Rattle.rules.specs.Kinds.{labelOf, kind, branching}
+use Rattle.rules.specs.Kinds.{labelOf, kind, branching, jumping}
 use Rattle.rules.specs.Commit.{committed}
 use Rattle.rules.specs.State.{kindOf, State, Action, initial}
 use Rattle.rules.specs.Step.{Step, commit, after, issue, neither, stepCode}
 use Rattle.rules.specs.Issue.{placeAfter, newAction, here, issued, next}
 use Rattle.rules.proofs.Accepted.{can-issue, neither-no, CanIssue, after-commit, can-commit, after-issue}
-use Rattle.sure.specs.Sure.{jumping, forward, backward, Sized}
+use Rattle.sure.specs.Sure.{forward, backward, Sized}
 use Rattle.sure.proofs.Kept.{issued-new, issued-old, committed-field}
 use Rattle.sure.proofs.Good.{turning-at, Good, Turning, turning-issue, none-here, turning-commit}
 use Rattle.sure.proofs.Commit.{committedBy, the, Commit, input, self, CanTake}

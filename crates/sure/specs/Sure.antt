@@ -1,12 +1,12 @@
 -- Sure steps: where one is accepted, a search may take it alone. Assumes nothing.
 use mathlib.Core.Bool.{Bool, false, not, _&&_, _||_}
 use Prim.Native.Nat.{ℕ, _+_, _≤_, _<_}
-use lib.Dec.{eqb, leb}
+use lib.Dec.{leb}
 use Rattle.words.specs.Small.{someBelow}
 use Rattle.cases.specs.declared.Instr.{Instr}
 use Rattle.cases.specs.declared.Case.{Case}
 use Rattle.cases.specs.Case.{countOf, instrAt}
-use Rattle.rules.specs.Kinds.{kind, reading, branching, acquiring, labelOf}
+use Rattle.rules.specs.Kinds.{kind, reading, acquiring, jumping, labelOf}
 use Rattle.rules.specs.State.{State, kindOf}
 use Rattle.rules.specs.Step.{Step, issue, commit, neither}
 
@@ -19,10 +19,6 @@ pub record Sized (c : Case) : Type 0 where
 -- The commit of a local, a branch, a goto, a write or a release: of neither a read nor an acquire.
 abbrev pub sureKind : ℕ → Bool
 sureKind k = not (reading k || acquiring k)
-
--- A branch or a goto.
-abbrev pub jumping : ℕ → Bool
-jumping k = branching k || eqb k 5
 
 -- The instruction x, at place i, may lead back to i or before it.
 abbrev pub backward : Instr → ℕ → Bool
