@@ -49,6 +49,20 @@ pub fault-code : (s : List ℕ) (f : Fault) → f ≡ faultOf s → f .code ≡ 
 unfolding faultOf
 fault-code s f h = ap (λ (f : Fault). f .code) h
 
+-- readOf: the code is the first refusal, and the case of a block that is not refused the one that it holds
+
+pub readOf-code : (s : List ℕ) → readOf s .code ≡ firstOf (refusals s)
+unfolding readOf
+readOf-code s = by (firstOf (refusals s))
+  where
+    by : (n : ℕ) → answered n (caseOf s) .code ≡ n
+    by zero = refl
+    by (suc n) = refl
+
+pub readOf-case : (s : List ℕ) → firstOf (refusals s) ≡ 0 → readOf s .case ≡ caseOf s
+unfolding readOf
+readOf-case s h = ap (λ (n : ℕ). answered n (caseOf s) .case) h
+
 -- read_case
 
 pub read-refused : (s : List ℕ) (code : ℕ) (c : Case) → code ≡ firstOf (refusals s) → (code ≡ 0 → ⊥) → c ≡ nothing → record { code = code; case = c } ≡ readOf s

@@ -8,7 +8,7 @@ use lib.Dec.{eqb, ltb, leb}
 use lib.ListN.{getD, List·getD-eq-default}
 use borrow.Author.Tests.{lt-ltb, eq-eqb, ne-eqb}
 use Rattle.words.specs.Small.{all, counting}
-use Rattle.words.proofs.Bools.{cond-true, cond-false}
+use Rattle.words.proofs.Bools.{cond-true, cond-false, or-nothing}
 use Rattle.words.proofs.Lists.{all-below}
 use Rattle.cases.specs.Instruction.{Field, zeroed, register, free, label, fields, fieldAt, fieldOf, badField}
 use Rattle.cases.specs.Block.{byte, word, badByte}
@@ -64,13 +64,9 @@ table-rule op k h l = same _ _ (all-below (entry op) 5 (all-below (λ op. all (e
 pub no-field : (op k : ℕ) → 11 ≤ op → zeroed ≡ fieldAt op k
 no-field op k h = ap (λ (l : List Field). getD l k zeroed) (sym (List·getD-eq-default fields [] h))
 
-or-no : (b : Bool) → (b || false) ≡ b
-or-no true = refl
-or-no false = refl
-
 pub bad-field : (f n v w : ℕ) → ((eqb f 0 && not (eqb v 0)) || (eqb f 1 && leb 8 v) || (ltb 2 f && ltb n w)) ≡ badField (fieldOf f) n v w
-bad-field zero n v w = or-no _ ∙ or-no _
-bad-field (suc zero) n v w = or-no _
+bad-field zero n v w = or-nothing _ ∙ or-nothing _
+bad-field (suc zero) n v w = or-nothing _
 bad-field (suc (suc zero)) n v w = refl
 bad-field (suc (suc (suc f))) n v w = rw (ne-eqb (suc (suc (suc f))) 0 (λ e. absurd (omega arith)), ne-eqb (suc (suc (suc f))) 1 (λ e. absurd (omega arith)), lt-ltb 2 (suc (suc (suc f))) (omega arith))
 

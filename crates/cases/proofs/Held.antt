@@ -1,7 +1,7 @@
 -- The bytes of the case that a sound block holds are the block's own. Assumes nothing.
 use mathlib.Core.Path.{_≡_, refl, ap, sym, _∙_}
 use mathlib.Core.Logic.{⊎-elim}
-use mathlib.Core.Bool.{Bool, true, false, _&&_, not, false≢true}
+use mathlib.Core.Bool.{true, false, _&&_, not}
 use mathlib.Core.List.{List, [], _∷_, _++_, append-assoc, append-nil}
 use Prim.Native.Nat.{ℕ, zero, suc, _+_, _*_, _-_, _/_, _%_, _<_, _≤_}
 use native.Mathlib.Nat.{add-zero, mul-suc, mul-zero}
@@ -10,9 +10,9 @@ use lib.Dec.{eqb, ltb, leb, lit<}
 use lib.ListN.{length, getD, take, replicate, getD-replicate}
 use lib.Seq.{take-suc}
 use borrow.Author.Tests.{lt-ltb, le-leb, eqb-true, eqb-false, ltb-false, not-false}
-use Rattle.words.specs.Small.{each, concatMap, someBelow}
+use Rattle.words.specs.Small.{each, concatMap}
 use Rattle.words.specs.Refusals.{firstOf}
-use Rattle.words.proofs.Bools.{decide, and-make, and-rest, or-none, or-left, or-right, below-make}
+use Rattle.words.proofs.Bools.{decide, and-make, and-rest, or-none, or-left, or-right, none-below}
 use Rattle.words.proofs.First.{first-none, not-yes}
 use Rattle.words.proofs.Lists.{each-is, each-more, concatMap-append}
 use Rattle.cases.specs.declared.Instr.{Instr}
@@ -21,11 +21,6 @@ use Rattle.cases.specs.Block.{within, procAt, numberAt, byteAt, byte, wo
 use Rattle.cases.specs.Formed.{Bytes}
 use Rattle.cases.proofs.Fields.{op-byte, field-byte}
 use Rattle.cases.proofs.Slots.{two-of, bytes-back}
-
--- a test that nobody passes
-
-none-below : (n : ℕ) (f : ℕ → Bool) → someBelow n f ≡ false → (k : ℕ) → k < n → f k ≡ false
-none-below n f h k b = ⊎-elim (λ e. absurd (false≢true (sym h ∙ below-make n f k b e))) (λ e. e) (decide (f k))
 
 -- no position is bad for a code
 pub record Clean (s : List ℕ) : Type 0 where

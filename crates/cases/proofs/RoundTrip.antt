@@ -3,7 +3,7 @@ use mathlib.Core.Path.{_≡_, refl, ap, sym, _∙_, subst}
 use mathlib.Core.Logic.{_↔_}
 use mathlib.Core.Bool.{false, not}
 use mathlib.Core.List.{List, _++_}
-use Prim.Native.Nat.{ℕ, zero, suc, _<_}
+use Prim.Native.Nat.{ℕ, _<_}
 use native.Mathlib.Omega.{arith}
 use lib.Dec.{eqb}
 use lib.ListN.{length, getD, take, replicate}
@@ -15,8 +15,9 @@ use Rattle.words.proofs.First.{first-none}
 use Rattle.cases.specs.declared.Case.{Case}
 use Rattle.cases.specs.declared.CaseRead.{CaseRead}
 use Rattle.cases.specs.Instruction.{two}
-use Rattle.cases.specs.Block.{word, check, faults, refusals, caseOf, readOf, answered, contents, blockOf, Sound, sealCode, sealed, writeCode, written}
+use Rattle.cases.specs.Block.{word, check, faults, caseOf, readOf, contents, blockOf, Sound, sealCode, sealed, writeCode, written}
 use Rattle.cases.specs.Formed.{Bytes, Formed, Held}
+use Rattle.cases.proofs.Decoding.{readOf-code, readOf-case}
 use Rattle.cases.proofs.Agree.{faults-same, check-same}
 use Rattle.cases.proofs.Held.{clean, contents-back, word-part}
 use Rattle.cases.proofs.Kept.{case-same, contents-long, contents-kept}
@@ -30,21 +31,16 @@ pub record Accepted (s : List ℕ) : Type 0 where
   pub sound : firstOf (faults s) ≡ 0
   pub held : readOf s .case ≡ caseOf s
 
-answered-code : (n : ℕ) (c : Case) → answered n c .code ≡ n
-answered-code zero c = refl
-answered-code (suc n) c = refl
-
 accepted : (s : List ℕ) → readOf s .code ≡ 0 → Accepted s
-unfolding readOf
 accepted s h =
-    let z = sym (answered-code (firstOf (refusals s)) (caseOf s)) ∙ h in
+    let z = sym (readOf-code s) ∙ h in
     let a = first-none 0 _ _ z in
     let b = first-none 1 _ _ (a .1) in
     record {
       long = eqb-true (length s) 512 (not-false _ (a .0));
       checked = eqb-true (word s 510) (check s) (not-false _ (b .0));
       sound = b .1;
-      held = ap (λ (n : ℕ). answered n (caseOf s) .case) z;
+      held = readOf-case s z;
     }
 
 -- a buffer of 512 bytes: the code is the case's own

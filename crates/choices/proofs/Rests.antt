@@ -12,7 +12,7 @@ use lib.ListN.{length, getD, set, length-set}
 use lib.Seq.{getD-set-same, getD-set-other}
 use borrow.Author.Tests.{lt-ltb, le-ltb, ltb-true, eqb-true, eqb-false, eq-eqb, ne-eqb, not-true}
 use Rattle.words.specs.Sets.{has}
-use Rattle.words.proofs.Bools.{decide, or-cases, or-left, or-right, and-both, and-make, and-left, and-right}
+use Rattle.words.proofs.Bools.{decide, or-cases, or-left, or-right, and-both, and-make, and-left, and-right, and-true, or-nothing}
 use Rattle.words.proofs.Sets.{has-zero}
 use Rattle.cases.specs.declared.Case.{Case}
 use Rattle.cases.specs.declared.Instr.{Instr}
@@ -63,10 +63,6 @@ word-gone x a gone h = has-zero a ∙ rw h (sym (and-right (has x a) false refl)
 
 pub word-left : (x a : ℕ) (gone : Bool) → gone ≡ false → has x a ≡ (has x a && not gone)
 word-left x a gone h = rw h (sym (and-true (has x a)))
-  where
-    and-true : (b : Bool) → (b && true) ≡ b
-    and-true true = refl
-    and-true false = refl
 
 module _ (now : List ℕ) (gone : ℕ) where
   pub cleared-none : (word : ℕ) → length now ≡ 50 → ((a : ℕ) → has word a ≡ (has (getD now 48 0) a && not (has gone a))) → Cleared now gone 0 (set now 48 word)
@@ -103,11 +99,7 @@ pub issue-last : (x q p n : ℕ) → 48 ≤ n + 1 → has 0 q ≡ (has x q && no
 issue-last x q p n h = has-zero q ∙ sym (and-right (has x q) _ (ap not (or-right (eqb q p) (leb 48 (suc n)) (borrow.Author.Tests.le-leb 48 (suc n) (omega arith)))))
 
 pub issue-other : (x q p n : ℕ) (bit word : ℕ) → n + 1 < 48 → has bit q ≡ eqb q p → has word q ≡ (has x q && not (has bit q)) → has word q ≡ (has x q && not (eqb q p || leb 48 (suc n)))
-issue-other x q p n bit word h e w = w ∙ rw (e, borrow.Author.Tests.lt-leb 48 (suc n) (omega arith)) (ap (λ (b : Bool). has x q && not b) (or-nothing (eqb q p)))
-  where
-    or-nothing : (b : Bool) → b ≡ (b || false)
-    or-nothing true = refl
-    or-nothing false = refl
+issue-other x q p n bit word h e w = w ∙ rw (e, borrow.Author.Tests.lt-leb 48 (suc n) (omega arith)) (ap (λ (b : Bool). has x q && not b) (sym (or-nothing (eqb q p))))
 
 -- the kind of an action that is not issued
 pub unissued-kind : (c : Case) (n : ℕ) (acts : List Entry) (k : ℕ) → n ≤ k → kindOf (actionsOf c n acts k) ≡ 6 → ⊥

@@ -12,6 +12,7 @@ use borrow.Author.Tests.{lt-ltb, le-ltb}
 use Rattle.words.specs.Small.{isNone, someBelow}
 use Rattle.words.specs.Sets.{has}
 use Rattle.words.proofs.Sets.{has-or, has-zero}
+use Rattle.words.proofs.Bools.{and-true}
 use Rattle.cases.specs.declared.Case.{Case}
 use Rattle.rules.specs.Kinds.{reading}
 use Rattle.rules.specs.Order.{Order}
@@ -24,10 +25,6 @@ use Rattle.machine.specs.Shown.{optionOf, Acts}
 use Rattle.machine.proofs.Entries.{action-out, item-given, none-option}
 use Rattle.machine.proofs.Items.{item-is, first-item}
 use Rattle.choices.specs.Opening.{writeTo, givenTo, Covers}
-
-and-true : (b : Bool) → b ≡ (b && true)
-and-true true = refl
-and-true false = refl
 
 -- entries
 
@@ -51,7 +48,7 @@ module _ (c : Case) (s : State) (l : ℕ) where
   first-given h e =
       first-item (writeTo l) s l h e
       ∙ elim (decLt e 8) [
-        | yes k ↦ rw (lt-ltb e 8 k) (and-true (eqb e l))
+        | yes k ↦ rw (lt-ltb e 8 k) (sym (and-true (eqb e l)))
         | no k ↦ rw (le-ltb e 8 (omega arith))
       ]
 

@@ -12,7 +12,7 @@ use lib.ListN.{length, getD, set, length-set}
 use lib.Seq.{getD-set-same, getD-set-other}
 use borrow.Author.Tests.{lt-ltb, le-ltb, ltb-true, eqb-true, eqb-false, eq-eqb, ne-eqb}
 use Rattle.words.specs.Sets.{has}
-use Rattle.words.proofs.Bools.{or-cases, or-left, or-right, and-both, and-make}
+use Rattle.words.proofs.Bools.{or-cases, or-left, or-right, and-both, and-make, or-nothing}
 use Rattle.words.proofs.Sets.{has-or, has-one}
 use Rattle.sure.specs.Spent.{Key, taking, issuing}
 use Rattle.choices.specs.Words.{keyIn, spentBy}
@@ -49,10 +49,6 @@ module _ (now : List ℕ) (w e : ℕ) where
 
 -- one key more
 
-or-nothing : (x : Bool) → x ≡ (x || false)
-or-nothing true = refl
-or-nothing false = refl
-
 module _ (now : List ℕ) (w e : ℕ) (long : length now ≡ 50) (low : w < 50) where
   abbrev noted : List ℕ
   noted = set now w (bitOr (getD now w 0) (2 ^ e))
@@ -68,7 +64,7 @@ module _ (now : List ℕ) (w e : ℕ) (long : length now ≡ 50) (low : w < 50) 
           ∙ has-or (getD now w 0) (2 ^ e) a
           ∙ ap (λ (b : Bool). has (getD now w 0) a || b) (has-one e a)
           ∙ ap (λ (i : ℕ). has (getD now i 0) a || eqb a e) (sym z)
-      step false q = ap (λ (x : ℕ). has x a) (getD-set-other now w k (bitOr (getD now w 0) (2 ^ e)) 0 (eqb-false k w q)) ∙ or-nothing (has (getD now k 0) a)
+      step false q = ap (λ (x : ℕ). has x a) (getD-set-other now w k (bitOr (getD now w 0) (2 ^ e)) 0 (eqb-false k w q)) ∙ sym (or-nothing (has (getD now k 0) a))
 
   bit-kept : (k a : ℕ) → has (getD now k 0) a ≡ true → has (getD noted k 0) a ≡ true
   bit-kept k a h = bits k a ∙ or-left (has (getD now k 0) a) (eqb k w && eqb a e) h

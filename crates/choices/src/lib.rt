@@ -29,7 +29,7 @@ ghost use Rattle.choices.specs.Resting.{Cleared};
 ghost use Rattle.choices.specs.Opening.{writeTo, givenTo, Covers, queuedRead, readyRead, machineOf, FirstFresh, SureCommit, SettledRead};
 
 // Whether the instruction, at a place, may lead back to that place or before it.
-pub fn leads_back(i: Instr, place: usize) -> bool
+fn leads_back(i: Instr, place: usize) -> bool
     ensures { λ r. ⌜ r ≡ backward i place ⌝ }
 {
     let k = rules::kind_of(i);
@@ -38,7 +38,7 @@ pub fn leads_back(i: Instr, place: usize) -> bool
 }
 
 // Whether an instruction of processor p may lead back.
-pub fn turns_back(c: Case, p: usize) -> bool
+fn turns_back(c: Case, p: usize) -> bool
     requires { ⌜ Fit c × (p < 4) ⌝ }
     ensures { λ r. ⌜ r ≡ someBelow (countOf c p) (λ i. backward (instrAt c p i) i) ⌝ }
 {
@@ -105,14 +105,14 @@ pub fn note(spent: [u64; 50], j: usize) -> [u64; 50]
 }
 
 // The set x without what it has in common with y.
-pub fn minus(x: u64, y: u64) -> u64
+fn minus(x: u64, y: u64) -> u64
     ensures { λ r. ⌜ ((a : ℕ) → inSet r a ≡ (inSet x a && not (inSet y a))) ⌝ }
 {
     x ^ (x & y)
 }
 
 // Whether both are acquires of one location.
-pub fn rivals(c: Case, acts: [Entry; 48], issued: usize, a: Entry, b: Entry) -> bool
+fn rivals(c: Case, acts: [Entry; 48], issued: usize, a: Entry, b: Entry) -> bool
     requires { ⌜ (issued ≤ 48) × (length acts ≡ 48) ⌝ }
     ensures { λ r. ⌜ ((s : State) → Acts c issued acts s → r ≡ areRivals s (shownEntry c a) (shownEntry c b)) ⌝ }
 {
@@ -130,7 +130,7 @@ pub fn rivals(c: Case, acts: [Entry; 48], issued: usize, a: Entry, b: Entry) -> 
 }
 
 // The acquires of the location that action e acquires.
-pub fn woken(c: Case, acts: [Entry; 48], issued: usize, e: Entry) -> u64
+fn woken(c: Case, acts: [Entry; 48], issued: usize, e: Entry) -> u64
     requires { ⌜ (issued ≤ 48) × (length acts ≡ 48) ⌝ }
     ensures { λ r. ⌜ ((s : State) → Acts c issued acts s → SetOf issued (λ k. areRivals s (shownEntry c e) (s .actions k)) r) ⌝ }
 {
@@ -146,7 +146,7 @@ pub fn woken(c: Case, acts: [Entry; 48], issued: usize, e: Entry) -> u64
 }
 
 // The word, or nothing.
-pub fn word_unless(x: u64, gone: bool) -> u64
+fn word_unless(x: u64, gone: bool) -> u64
     ensures { λ r. ⌜ ((a : ℕ) → inSet r a ≡ (inSet x a && not gone)) ⌝ }
 {
     if gone {
@@ -156,7 +156,7 @@ pub fn word_unless(x: u64, gone: bool) -> u64
 }
 
 // The words without the commits of the actions of a set.
-pub fn cleared(spent: [u64; 50], gone: u64) -> [u64; 50]
+fn cleared(spent: [u64; 50], gone: u64) -> [u64; 50]
     requires { ⌜ length spent ≡ 50 ⌝ }
     ensures { λ r. ⌜ Cleared spent gone 48 r ⌝ }
 {
@@ -172,7 +172,7 @@ pub fn cleared(spent: [u64; 50], gone: u64) -> [u64; 50]
 }
 
 // The processors of a set whose issues stay spent when p issues.
-pub fn still_spent(x: u64, issued: usize, p: usize) -> u64
+fn still_spent(x: u64, issued: usize, p: usize) -> u64
     requires { ⌜ (issued ≤ 48) × (p < 64) ⌝ }
     ensures { λ r. ⌜ ((q : ℕ) → inSet r q ≡ (inSet x q && not (eqb q p || leb 48 (suc issued)))) ⌝ }
 {
@@ -184,7 +184,7 @@ pub fn still_spent(x: u64, issued: usize, p: usize) -> u64
 }
 
 // The action that the step at position j commits.
-pub fn action_at(j: usize) -> usize
+fn action_at(j: usize) -> usize
     ensures { λ r. ⌜ r ≡ cond (ltb (j / 64) 48) (j / 64) (j % 64) ⌝ }
 {
     if j / 64 < 48 {
@@ -219,7 +219,7 @@ pub fn rest(c: Case, m: Machine, spent: [u64; 50], j: usize) -> [u64; 50]
 }
 
 // Whether the entry is a write to location l that has its value.
-pub fn given_at(e: Entry, l: usize) -> bool
+fn given_at(e: Entry, l: usize) -> bool
     ensures { λ r. ⌜ ((c : TheCase) → r ≡ (writeTo l (shownEntry c e) && not (isNone (shownEntry c e .result)))) ⌝ }
 {
     let w = committing::writes_at(e, l);
@@ -227,7 +227,7 @@ pub fn given_at(e: Entry, l: usize) -> bool
 }
 
 // The write items of location l.
-pub fn write_items(acts: [Entry; 48], issued: usize, l: usize) -> u64
+fn write_items(acts: [Entry; 48], issued: usize, l: usize) -> u64
     requires { ⌜ (issued ≤ 48) × (length acts ≡ 48) × (l < 8) ⌝ }
     ensures { λ r. ⌜ ((c : TheCase) (s : State) → Acts c issued acts s → SetOf (8 + issued) (writes s l) r) ⌝ }
 {
@@ -243,7 +243,7 @@ pub fn write_items(acts: [Entry; 48], issued: usize, l: usize) -> u64
 }
 
 // The write items of location l that have their value.
-pub fn given_items(acts: [Entry; 48], issued: usize, l: usize) -> u64
+fn given_items(acts: [Entry; 48], issued: usize, l: usize) -> u64
     requires { ⌜ (issued ≤ 48) × (length acts ≡ 48) × (l < 8) ⌝ }
     ensures { λ r. ⌜ ((c : TheCase) (s : State) → Acts c issued acts s → SetOf (8 + issued) (givenTo c s l) r) ⌝ }
 {
@@ -259,7 +259,7 @@ pub fn given_items(acts: [Entry; 48], issued: usize, l: usize) -> u64
 }
 
 // What stands before item w in the order of location l, where the test passes, else nothing.
-pub fn row_if(rows: &[u64; 448], l: usize, w: usize, test: bool) -> u64
+fn row_if(rows: &[u64; 448], l: usize, w: usize, test: bool) -> u64
     requires { ⌜ (l < 8) × (w < 56) ⌝ }
     ensures { λ r. ⌜ ((a : ℕ) → inSet r a ≡ (test && orderOf (now (rows .entry)) l a w)) ⌝ }
 {
@@ -270,7 +270,7 @@ pub fn row_if(rows: &[u64; 448], l: usize, w: usize, test: bool) -> u64
 }
 
 // What stands before an item of a set, all below n, that stands before item i.
-pub fn covered(rows: &[u64; 448], l: usize, items: u64, n: usize, i: usize) -> u64
+fn covered(rows: &[u64; 448], l: usize, items: u64, n: usize, i: usize) -> u64
     requires { ⌜ (l < 8) × (n ≤ 56) ⌝ }
     ensures { λ r. ⌜ ((P : ℕ → Bool) → SetOf n P items → Covers (orderOf (now (rows .entry)) l) n P i r) ⌝ }
 {
@@ -287,7 +287,7 @@ pub fn covered(rows: &[u64; 448], l: usize, items: u64, n: usize, i: usize) -> u
 }
 
 // The items of a set, all below n, that are not gone and do not stand after item i.
-pub fn uncovered(rows: &[u64; 448], l: usize, items: u64, gone: u64, n: usize, i: usize) -> u64
+fn uncovered(rows: &[u64; 448], l: usize, items: u64, gone: u64, n: usize, i: usize) -> u64
     requires { ⌜ (l < 8) × (n ≤ 56) ⌝ }
     ensures { λ r. ⌜ SetOf n (λ e. inSet items e && not (inSet gone e) && not (orderOf (now (rows .entry)) l i e)) r ⌝ }
 {
@@ -304,7 +304,7 @@ pub fn uncovered(rows: &[u64; 448], l: usize, items: u64, gone: u64, n: usize, i
 }
 
 // The items that are visible to the read item i of location l.
-pub fn visible_items(rows: &[u64; 448], acts: [Entry; 48], issued: usize, l: usize, i: usize) -> u64
+fn visible_items(rows: &[u64; 448], acts: [Entry; 48], issued: usize, l: usize, i: usize) -> u64
     requires { ⌜ (issued ≤ 48) × (length acts ≡ 48) × (l < 8) ⌝ }
     ensures { λ r. ⌜ ((c : TheCase) (s : State) → Acts c issued acts s → s .orders ≡ orderOf (now (rows .entry)) → (e : ℕ) → inSet r e ≡ visible c s l i e) ⌝ }
 {
@@ -315,7 +315,7 @@ pub fn visible_items(rows: &[u64; 448], acts: [Entry; 48], issued: usize, l: usi
 }
 
 // Whether the entry is a queued read of a present processor.
-pub fn read_queued(e: Entry, procs: u8) -> bool
+fn read_queued(e: Entry, procs: u8) -> bool
     ensures { λ r. ⌜ ((c : TheCase) → r ≡ queuedRead procs (shownEntry c e)) ⌝ }
 {
     let i = e.instr;
@@ -324,7 +324,7 @@ pub fn read_queued(e: Entry, procs: u8) -> bool
 }
 
 // Whether action k is a read that may be committed from every visible item.
-pub fn read_ready(c: Case, acts: [Entry; 48], issued: usize, k: usize) -> bool
+fn read_ready(c: Case, acts: [Entry; 48], issued: usize, k: usize) -> bool
     requires { ⌜ (issued ≤ 48) × (length acts ≡ 48) × (k < issued) ⌝ }
     ensures { λ r. ⌜ ((s : State) → Acts c issued acts s → r ≡ readyRead c s k) ⌝ }
 {
@@ -339,7 +339,7 @@ pub fn read_ready(c: Case, acts: [Entry; 48], issued: usize, k: usize) -> bool
 }
 
 // The items that the commit of read k may name; none of another action.
-pub fn sources(c: Case, rows: &[u64; 448], acts: [Entry; 48], issued: usize, k: usize) -> u64
+fn sources(c: Case, rows: &[u64; 448], acts: [Entry; 48], issued: usize, k: usize) -> u64
     requires { ⌜ (issued ≤ 48) × (length acts ≡ 48) × (k < issued) × Entries issued acts ⌝ }
     ensures { λ r. ⌜ ((s : State) → Acts c issued acts s → s .orders ≡ orderOf (now (rows .entry)) → (e : ℕ) → inSet r e ≡ opens c s k e) ⌝ }
 {
@@ -352,7 +352,7 @@ pub fn sources(c: Case, rows: &[u64; 448], acts: [Entry; 48], issued: usize, k: 
 }
 
 // Whether the commit of action k, from item 0, is accepted.
-pub fn may_commit<'a>(
+fn may_commit<'a>(
     c: Case,
     rows: &'a [u64; 448],
     holders: &'a [u8; 8],
@@ -372,7 +372,7 @@ pub fn may_commit<'a>(
 }
 
 // Whether action k is no read and its commit is accepted.
-pub fn lone_open<'a>(
+fn lone_open<'a>(
     c: Case,
     rows: &'a [u64; 448],
     holders: &'a [u8; 8],
@@ -392,7 +392,7 @@ pub fn lone_open<'a>(
 }
 
 // The actions that are no reads and whose commits are accepted.
-pub fn commits<'a>(
+fn commits<'a>(
     c: Case,
     rows: &'a [u64; 448],
     holders: &'a [u8; 8],
@@ -413,7 +413,7 @@ pub fn commits<'a>(
 }
 
 // Whether processor p may issue.
-pub fn may_issue<'a>(
+fn may_issue<'a>(
     c: Case,
     places: &'a [u8; 4],
     names: &'a [u8; 32],
@@ -431,7 +431,7 @@ pub fn may_issue<'a>(
 }
 
 // The processors that may issue.
-pub fn issues<'a>(
+fn issues<'a>(
     c: Case,
     places: &'a [u8; 4],
     names: &'a [u8; 32],
@@ -452,7 +452,7 @@ pub fn issues<'a>(
 }
 
 // The accepted steps of word w.
-pub fn open_word<'a>(
+fn open_word<'a>(
     c: Case,
     places: &'a [u8; 4],
     names: &'a [u8; 32],
@@ -478,7 +478,7 @@ pub fn open_word<'a>(
 }
 
 // The first position from j on, before `end`, whose bit is set and that is not spent, else `end`.
-pub fn first_fresh(word: u64, spent: &[u64; 50], j: usize, end: usize) -> usize
+fn first_fresh(word: u64, spent: &[u64; 50], j: usize, end: usize) -> usize
     requires { ⌜ (j ≤ end) × (end ≤ 3200) ⌝ }
     ensures { λ r. ⌜ FirstFresh word (now (spent .entry)) j end r ⌝ }
 {
@@ -498,7 +498,7 @@ pub fn first_fresh(word: u64, spent: &[u64; 50], j: usize, end: usize) -> usize
 }
 
 // The end of the word that has position j, and at most `to`.
-pub fn word_end(j: usize, to: usize) -> usize
+fn word_end(j: usize, to: usize) -> usize
     requires { ⌜ (j < to) × (to ≤ 3200) ⌝ }
     ensures { λ r. ⌜ (j < r) × (r ≤ to) × ((i : ℕ) → j ≤ i → i < r → i / 64 ≡ j / 64) ⌝ }
 {
@@ -539,7 +539,7 @@ pub fn next_step(c: Case, m: Machine, spent: &[u64; 50], at: usize, to: usize) -
 }
 
 // The first action of a sure kind whose commit is accepted, else 48.
-pub fn sure_commit<'a>(
+fn sure_commit<'a>(
     c: Case,
     rows: &'a [u64; 448],
     holders: &'a [u8; 8],
@@ -565,7 +565,7 @@ pub fn sure_commit<'a>(
 }
 
 // The first processor that may issue, else 4.
-pub fn issuer<'a>(
+fn issuer<'a>(
     c: Case,
     places: &'a [u8; 4],
     names: &'a [u8; 32],
@@ -606,7 +606,7 @@ pub fn sure_step(c: Case, m: Machine, n: usize, ahead: bool) -> usize
 }
 
 // Whether every place counter is at its processor's count.
-pub fn ended(c: Case, places: &[u8; 4]) -> bool
+fn ended(c: Case, places: &[u8; 4]) -> bool
     requires { ⌜ Fit c × (length (now places) ≡ 4) ⌝ }
     ensures { λ r. ⌜ ((s : State) → s .places ≡ (λ q. placeOf (getD (now (places .entry)) q 0)) → r ≡ hasEnded c s) ⌝ }
 {
@@ -622,7 +622,7 @@ pub fn ended(c: Case, places: &[u8; 4]) -> bool
 }
 
 // Whether the entry is a queued write to location l.
-pub fn write_queued(e: Entry, l: usize) -> bool
+fn write_queued(e: Entry, l: usize) -> bool
     ensures { λ r. ⌜ ((c : TheCase) → r ≡ pending l (shownEntry c e)) ⌝ }
 {
     let w = committing::writes_at(e, l);
@@ -630,7 +630,7 @@ pub fn write_queued(e: Entry, l: usize) -> bool
 }
 
 // Whether a write to location l is queued.
-pub fn write_pending(acts: [Entry; 48], issued: usize, l: usize) -> bool
+fn write_pending(acts: [Entry; 48], issued: usize, l: usize) -> bool
     requires { ⌜ (issued ≤ 48) × (length acts ≡ 48) ⌝ }
     ensures { λ r. ⌜ ((c : TheCase) (s : State) → Acts c issued acts s → r ≡ someBelow (s .count) (λ j. pending l (s .actions j))) ⌝ }
 {
@@ -646,7 +646,7 @@ pub fn write_pending(acts: [Entry; 48], issued: usize, l: usize) -> bool
 }
 
 // Whether read k has a source, and no write to its location is queued.
-pub fn settled_read(c: Case, rows: &[u64; 448], acts: [Entry; 48], issued: usize, k: usize) -> bool
+fn settled_read(c: Case, rows: &[u64; 448], acts: [Entry; 48], issued: usize, k: usize) -> bool
     requires { ⌜ (issued ≤ 48) × (length acts ≡ 48) × (k < issued) × Entries issued acts ⌝ }
     ensures { λ r. ⌜ ((s : State) → Acts c issued acts s → s .orders ≡ orderOf (now (rows .entry)) → r ≡ true → SettledRead c s k) ⌝ }
 {
@@ -659,7 +659,7 @@ pub fn settled_read(c: Case, rows: &[u64; 448], acts: [Entry; 48], issued: usize
 }
 
 // The first read with a source to whose location no write is queued, else 48.
-pub fn first_settled(c: Case, rows: &[u64; 448], acts: [Entry; 48], issued: usize) -> usize
+fn first_settled(c: Case, rows: &[u64; 448], acts: [Entry; 48], issued: usize) -> usize
     requires { ⌜ (issued ≤ 48) × (length acts ≡ 48) × Entries issued acts ⌝ }
     ensures { λ r. ⌜ (r ≤ 48) × ((s : State) → Acts c issued acts s → s .orders ≡ orderOf (now (rows .entry)) → r < 48 → SettledRead c s r) ⌝ }
 {
@@ -687,7 +687,7 @@ pub fn quiet_read(c: Case, m: Machine) -> usize
 }
 
 // The item that the step at position j names.
-pub fn source_at(j: usize) -> usize
+fn source_at(j: usize) -> usize
     ensures { λ r. ⌜ r ≡ cond (ltb (j / 64) 48) (j % 64) 0 ⌝ }
 {
     if j / 64 < 48 {

@@ -10,7 +10,7 @@ use lib.Dec.{eqb, ltb}
 use lib.ListN.{length, getD}
 use borrow.Author.Tests.{lt-ltb, eq-eqb, ne-eqb, eqb-true, eqb-false}
 use Rattle.words.specs.Small.{any, isNone, orZero, is}
-use Rattle.words.proofs.Bools.{decide}
+use Rattle.words.proofs.Bools.{decide, or-nothing}
 use Rattle.cases.specs.declared.Case.{Case}
 use Rattle.cases.specs.declared.Instr.{Instr}
 use Rattle.cases.specs.declared.Instr.the-variants.{Empty, Read, Write, Local, Branch, Goto, Acquire, Release}
@@ -26,12 +26,7 @@ use Rattle.committing.specs.Committed.{resultBy}
 pub undefined-inputs : (c : Case) (f : Name → Bool) (l : List ℕ) (x y : ℕ) → ((ltb 0 (length l) && f (nameOf c x)) || (ltb 1 (length l) && f (nameOf c y))) ≡ any f (inputsOf c l x y)
 undefined-inputs c f [] x y = refl
 undefined-inputs c f (a ∷ []) x y = refl
-undefined-inputs c f (a ∷ b ∷ more) x y = rw (lt-ltb 0 (suc (suc (length more))) (omega arith), lt-ltb 1 (suc (suc (length more))) (omega arith)) (or-no (f (nameOf c x)) (f (nameOf c y)))
-  where
-    or-no : (u v : Bool) → (u || v) ≡ (u || (v || false))
-    or-no true v = refl
-    or-no false true = refl
-    or-no false false = refl
+undefined-inputs c f (a ∷ b ∷ more) x y = rw (lt-ltb 0 (suc (suc (length more))) (omega arith), lt-ltb 1 (suc (suc (length more))) (omega arith)) (ap (λ (b : Bool). f (nameOf c x) || b) (sym (or-nothing (f (nameOf c y)))))
 
 is-holder : (p h : ℕ) → eqb h (p + 1) ≡ is p (holderOf h)
 is-holder p h = ⊎-elim free taken (decide (eqb h 0))

@@ -24,7 +24,7 @@ ghost use Rattle.machine.specs.Valid.{Valid};
 ghost use Rattle.committing.specs.Committed.{Entries, holding, releases, restRefusals, resultBy, branchTo, placeBy, lockedBy};
 
 // Whether a queued entry of processor p holds back the commit of a kind at a location.
-pub fn holds(e: Entry, p: usize, kind: u8, loc: u8) -> bool
+fn holds(e: Entry, p: usize, kind: u8, loc: u8) -> bool
     requires { ⌜ kind < 8 ⌝ }
     ensures { λ r. ⌜ ((c : TheCase) → r ≡ holding p kind loc (shownEntry c e)) ⌝ }
 {
@@ -63,7 +63,7 @@ pub fn writes_at(e: Entry, l: usize) -> bool
 }
 
 // Whether item w is a write item of location l.
-pub fn writes(acts: [Entry; 48], issued: usize, l: usize, w: usize) -> bool
+fn writes(acts: [Entry; 48], issued: usize, l: usize, w: usize) -> bool
     requires { ⌜ (issued ≤ 48) × (length acts ≡ 48) ⌝ }
     ensures { λ r. ⌜ ((c : TheCase) (s : State) → Acts c issued acts s → r ≡ writesOf s l w) ⌝ }
 {
@@ -79,14 +79,7 @@ pub fn writes(acts: [Entry; 48], issued: usize, l: usize, w: usize) -> bool
 }
 
 // Whether a write item of location l stands after item w and before item i.
-pub fn hidden(
-    acts: [Entry; 48],
-    rows: &[u64; 448],
-    issued: usize,
-    l: usize,
-    i: usize,
-    w: usize,
-) -> bool
+fn hidden(acts: [Entry; 48], rows: &[u64; 448], issued: usize, l: usize, i: usize, w: usize) -> bool
     requires { ⌜ (issued ≤ 48) × (length acts ≡ 48) × (l < 8) ⌝ }
     ensures { λ r. ⌜ ((c : TheCase) (s : State) → Acts c issued acts s → r ≡ someBelow (8 + s .count) (λ v. writesOf s l v && (orderOf (now (rows .entry)) l w v && orderOf (now (rows .entry)) l v i))) ⌝ }
 {
@@ -106,7 +99,7 @@ pub fn hidden(
 }
 
 // Whether the read item i of location l may take the value of item w.
-pub fn sees(
+fn sees(
     c: Case,
     acts: [Entry; 48],
     rows: &[u64; 448],
@@ -126,7 +119,7 @@ pub fn sees(
 }
 
 // How many registers an instruction reads.
-pub fn arity(i: Instr) -> u8
+fn arity(i: Instr) -> u8
     ensures { λ r. ⌜ r ≡ length (reads i) ⌝ }
 {
     match i {
@@ -167,7 +160,7 @@ pub fn input(c: Case, acts: [Entry; 48], issued: usize, name: u8) -> u16
 }
 
 // Who holds location x: 0 is nobody, 1 + p is processor p.
-pub fn holder_at(holders: &[u8; 8], x: usize) -> u8
+fn holder_at(holders: &[u8; 8], x: usize) -> u8
     requires { ⌜ length (now holders) ≡ 8 ⌝ }
     ensures { λ r. ⌜ r ≡ getD (now (holders .entry)) x 0 ⌝ }
 {
@@ -178,7 +171,7 @@ pub fn holder_at(holders: &[u8; 8], x: usize) -> u8
 }
 
 // Whether the holder h of its location bars a commit of a kind by processor p.
-pub fn barred_by(h: u8, kind: u8, p: usize) -> bool
+fn barred_by(h: u8, kind: u8, p: usize) -> bool
     requires { ⌜ p < 4 ⌝ }
     ensures { λ r. ⌜ r ≡ barred p kind (holderOf h) ⌝ }
 {
@@ -189,7 +182,7 @@ pub fn barred_by(h: u8, kind: u8, p: usize) -> bool
 }
 
 // Code 32, of an entry of a kind and a location with item i.
-pub fn sight_code(
+fn sight_code(
     c: Case,
     acts: [Entry; 48],
     rows: &[u64; 448],
@@ -212,7 +205,7 @@ pub fn sight_code(
 }
 
 // Codes 27 to 32, of entry k, which is e.
-pub fn rest_code<'a>(
+fn rest_code<'a>(
     c: Case,
     acts: [Entry; 48],
     rows: &'a [u64; 448],
@@ -273,7 +266,7 @@ pub fn commit_code<'a>(
 }
 
 // What a commit gives: v is the value of the source, x and y are the inputs.
-pub fn result_by(v: u16, x: u16, y: u16, i: Instr) -> u16
+fn result_by(v: u16, x: u16, y: u16, i: Instr) -> u16
     ensures { λ r. ⌜ r ≡ resultBy v x y i ⌝ }
 {
     match i {
@@ -305,7 +298,7 @@ pub fn label_of(i: Instr) -> u16
 }
 
 // Where a branch at a place goes, whose register holds x.
-pub fn branch_to(x: u16, place: u8, label: u16) -> u8
+fn branch_to(x: u16, place: u8, label: u16) -> u8
     requires { ⌜ place < 12 ⌝ }
     ensures { λ r. ⌜ r ≡ branchTo x place label ⌝ }
 {
@@ -316,7 +309,7 @@ pub fn branch_to(x: u16, place: u8, label: u16) -> u8
 }
 
 // The place counter after a commit of a kind, where it was old.
-pub fn place_by(kind: u8, old: u8, x: u16, place: u8, i: Instr) -> u8
+fn place_by(kind: u8, old: u8, x: u16, place: u8, i: Instr) -> u8
     requires { ⌜ place < 12 ⌝ }
     ensures { λ r. ⌜ r ≡ placeBy kind old x place i ⌝ }
 {
@@ -327,7 +320,7 @@ pub fn place_by(kind: u8, old: u8, x: u16, place: u8, i: Instr) -> u8
 }
 
 // The holders with v at location x.
-pub fn put_holder(h: [u8; 8], x: usize, v: u8) -> [u8; 8]
+fn put_holder(h: [u8; 8], x: usize, v: u8) -> [u8; 8]
     requires { ⌜ length h ≡ 8 ⌝ }
     ensures { λ r. ⌜ r ≡ set h x v ⌝ }
 {
@@ -339,7 +332,7 @@ pub fn put_holder(h: [u8; 8], x: usize, v: u8) -> [u8; 8]
 }
 
 // The holders after a commit of a kind by processor p, at location x.
-pub fn locked_by(kind: u8, h: [u8; 8], x: usize, p: usize) -> [u8; 8]
+fn locked_by(kind: u8, h: [u8; 8], x: usize, p: usize) -> [u8; 8]
     requires { ⌜ (p < 4) × (length h ≡ 8) ⌝ }
     ensures { λ r. ⌜ r ≡ lockedBy kind h x p ⌝ }
 {
@@ -353,7 +346,7 @@ pub fn locked_by(kind: u8, h: [u8; 8], x: usize, p: usize) -> [u8; 8]
 }
 
 // Whether an entry is a committed release of location x.
-pub fn frees(e: Entry, x: usize) -> bool
+fn frees(e: Entry, x: usize) -> bool
     ensures { λ r. ⌜ ((c : TheCase) → r ≡ (releasing (kindOf (shownEntry c e)) && is x (shownEntry c e .result))) ⌝ }
 {
     let i = e.instr;
@@ -363,7 +356,7 @@ pub fn frees(e: Entry, x: usize) -> bool
 }
 
 // The items of the committed releases of location x.
-pub fn released(acts: [Entry; 48], issued: usize, x: usize) -> u64
+fn released(acts: [Entry; 48], issued: usize, x: usize) -> u64
     requires { ⌜ (issued ≤ 48) × (length acts ≡ 48) ⌝ }
     ensures { λ r. ⌜ ((c : TheCase) (s : State) → Acts c issued acts s → SetOf (8 + issued) (releases s x) r) ⌝ }
 {
@@ -379,7 +372,7 @@ pub fn released(acts: [Entry; 48], issued: usize, x: usize) -> u64
 }
 
 // Puts an item after the items of a set, all below n, in the order of each location.
-pub fn join_each(rows: &mut [u64; 448], item: usize, items: u64, n: usize, locs: u8)
+fn join_each(rows: &mut [u64; 448], item: usize, items: u64, n: usize, locs: u8)
     requires { ⌜ (item < 56) × (n ≤ 56) × (length (now rows) ≡ 448) × (locs ≤ 8) ⌝ }
     ensures { λ _. ⌜ (length (now (rows .exit)) ≡ 448) × ((P : ℕ → Bool) → SetOf n P items → (l : ℕ) → orderOf (now (rows .exit)) l ≡ joinedIf (ltb l locs && true) (orderOf (now (rows .entry)) l) item n P) ⌝ }
 {
@@ -392,7 +385,7 @@ pub fn join_each(rows: &mut [u64; 448], item: usize, items: u64, n: usize, locs:
 }
 
 // Puts an acquire's item after the committed releases of its location x.
-pub fn order_acquire(
+fn order_acquire(
     rows: &mut [u64; 448],
     acts: [Entry; 48],
     issued: usize,

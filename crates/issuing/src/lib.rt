@@ -26,7 +26,7 @@ ghost use Rattle.machine.specs.Valid.{Valid, ValidEntry};
 ghost use Rattle.issuing.specs.Issued.{assignedBy, placeBy, fresh, Entered};
 
 // Whether the entry has an item in the order of location l.
-pub fn stands(e: Entry, l: usize) -> bool
+fn stands(e: Entry, l: usize) -> bool
     ensures { λ r. ⌜ ((c : TheCase) → r ≡ standsAt l (shownEntry c e)) ⌝ }
 {
     let i = e.instr;
@@ -36,7 +36,7 @@ pub fn stands(e: Entry, l: usize) -> bool
 }
 
 // Whether that item is one of processor p.
-pub fn own(e: Entry, p: usize, l: usize) -> bool
+fn own(e: Entry, p: usize, l: usize) -> bool
     ensures { λ r. ⌜ ((c : TheCase) → r ≡ (eqb (shownEntry c e .proc) p && standsAt l (shownEntry c e))) ⌝ }
 {
     let proc = words::wide(e.proc);
@@ -45,7 +45,7 @@ pub fn own(e: Entry, p: usize, l: usize) -> bool
 }
 
 // The items that a new one of processor p stands after, in the order of location l.
-pub fn earlier(acts: [Entry; 48], issued: usize, p: usize, l: usize) -> u64
+fn earlier(acts: [Entry; 48], issued: usize, p: usize, l: usize) -> u64
     requires { ⌜ (issued ≤ 48) × (length acts ≡ 48) × (l < 8) ⌝ }
     ensures { λ r. ⌜ ((c : TheCase) (s : State) → Acts c issued acts s → SetOf (8 + issued) (earlierOf c s p l) r) ⌝ }
 {
@@ -61,7 +61,7 @@ pub fn earlier(acts: [Entry; 48], issued: usize, p: usize, l: usize) -> u64
 }
 
 // The item of a new entry e of processor p joins the order of each location that it stands in.
-pub fn join_orders(
+fn join_orders(
     rows: &mut [u64; 448],
     acts: [Entry; 48],
     issued: usize,
@@ -84,7 +84,7 @@ pub fn join_orders(
 }
 
 // The first register that an instruction reads, its address register, or 0.
-pub fn first_read(i: Instr) -> u8
+fn first_read(i: Instr) -> u8
     ensures { λ r. ⌜ r ≡ getD (reads i) 0 0 ⌝ }
 {
     match i {
@@ -105,7 +105,7 @@ pub fn first_read(i: Instr) -> u8
 }
 
 // The second register that an instruction reads, or 0.
-pub fn second_read(i: Instr) -> u8
+fn second_read(i: Instr) -> u8
     ensures { λ r. ⌜ r ≡ getD (reads i) 1 0 ⌝ }
 {
     match i {
@@ -126,7 +126,7 @@ pub fn second_read(i: Instr) -> u8
 }
 
 // The place counter after an issue; 255 is undefined.
-pub fn place_after(i: Instr, place: u8) -> u8
+fn place_after(i: Instr, place: u8) -> u8
     requires { ⌜ place < 12 ⌝ }
     ensures { λ r. ⌜ r ≡ placeBy i place ⌝ }
 {
@@ -143,7 +143,7 @@ pub fn place_after(i: Instr, place: u8) -> u8
 }
 
 // The register that an instruction assigns, or 8.
-pub fn assigned(i: Instr) -> u8
+fn assigned(i: Instr) -> u8
     ensures { λ r. ⌜ r ≡ assignedBy i ⌝ }
 {
     match i {
@@ -159,7 +159,7 @@ pub fn assigned(i: Instr) -> u8
 }
 
 // What register n, counted over all processors, is bound to.
-pub fn name_at(names: &[u8; 32], n: usize) -> u8
+fn name_at(names: &[u8; 32], n: usize) -> u8
     requires { ⌜ length (now names) ≡ 32 ⌝ }
     ensures { λ r. ⌜ r ≡ getD (now (names .entry)) n 0 ⌝ }
 {
@@ -170,7 +170,7 @@ pub fn name_at(names: &[u8; 32], n: usize) -> u8
 }
 
 // The location of a read or a write, from the name of its address register.
-pub fn location(c: Case, acts: [Entry; 48], issued: usize, i: Instr, first: u8) -> u8
+fn location(c: Case, acts: [Entry; 48], issued: usize, i: Instr, first: u8) -> u8
     requires { ⌜ (issued ≤ 48) × (length acts ≡ 48) ⌝ }
     ensures { λ r. ⌜ ((s : State) → Acts c issued acts s → r ≡ cond (accesses (kind i)) (orZero (valueOf s (nameOf c first)) % 256) 0) ⌝ }
 {
@@ -183,7 +183,7 @@ pub fn location(c: Case, acts: [Entry; 48], issued: usize, i: Instr, first: u8) 
 }
 
 // A new entry of instruction i of processor p, its registers bound and its location fixed.
-pub fn new_entry(
+fn new_entry(
     c: Case,
     names: &[u8; 32],
     acts: [Entry; 48],
@@ -213,7 +213,7 @@ pub fn new_entry(
 }
 
 // Codes 24 and 25 of an instruction whose address register holds v.
-pub fn address_code(i: Instr, v: Value, locs: u8) -> u8
+fn address_code(i: Instr, v: Value, locs: u8) -> u8
     ensures { λ r. ⌜ r ≡ firstOf (24 when (accesses (kind i) && isNone (shownValue v)) ∷ 25 when (accesses (kind i) && leb locs (orZero (shownValue v))) ∷ []) ⌝ }
 {
     let k = rules::kind_of(i);
@@ -258,7 +258,7 @@ pub fn issue_code<'a>(
 }
 
 // The names once action k of processor p, of instruction i, has its register renamed.
-pub fn renamed(names: [u8; 32], p: usize, i: Instr, k: usize) -> [u8; 32]
+fn renamed(names: [u8; 32], p: usize, i: Instr, k: usize) -> [u8; 32]
     requires { ⌜ (length names ≡ 32) × (p < 4) × (k < 48) × Fine i ⌝ }
     ensures { λ r. ⌜ (length r ≡ 32) × ((c : TheCase) → namesOf c r ≡ put (namesOf c names) p (renamedOf (namesOf c names p) (assigns i) (given k))) ⌝ }
 {
@@ -271,7 +271,7 @@ pub fn renamed(names: [u8; 32], p: usize, i: Instr, k: usize) -> [u8; 32]
 }
 
 // Enters e, of processor p, as the next action; the names are those after it.
-pub fn enter(c: Case, m: Machine, p: usize, e: Entry, names: [u8; 32]) -> Machine
+fn enter(c: Case, m: Machine, p: usize, e: Entry, names: [u8; 32]) -> Machine
     requires { ⌜ Valid c m × (p < 4) × (m .issued < 48) × ValidEntry e × (length names ≡ 32) × (namesOf c names ≡ put (namesOf c (m .names)) p (renamedOf (namesOf c (m .names) p) (assigns (e .instr)) (given (m .issued)))) ⌝ }
     ensures { λ r. ⌜ Entered c m p e r ⌝ }
 {

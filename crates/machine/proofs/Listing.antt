@@ -9,14 +9,11 @@ use native.Mathlib.Omega.{arith}
 use lib.ListN.{length, getD}
 use Rattle.words.specs.Small.{all, counting, concatMap}
 use Rattle.words.proofs.Lists.{concatMap-length, concatMap-at}
+use Rattle.words.proofs.Bools.{and-true}
 
 and-assoc : (a b c : Bool) → (a && (b && c)) ≡ ((a && b) && c)
 and-assoc true b c = refl
 and-assoc false b c = refl
-
-and-true : (a : Bool) → (a && true) ≡ a
-and-true true = refl
-and-true false = refl
 
 all-from : (f : ℕ → Bool) (a n : ℕ) → all f (counting a (suc n)) ≡ (all f (counting a n) && f (a + n))
 all-from f a zero = and-true (f a) ∙ ap f (sym (add-zero a))

@@ -53,7 +53,7 @@ pub fn or_zero(v: Value) -> u16
 }
 
 // What action k gives.
-pub fn value_at(acts: [Entry; 48], issued: usize, k: usize) -> Value
+fn value_at(acts: [Entry; 48], issued: usize, k: usize) -> Value
     requires { ⌜ (issued ≤ 48) × (length acts ≡ 48) ⌝ }
     ensures { λ r. ⌜ ((c : TheCase) (s : State) → Acts c issued acts s → shownValue r ≡ s .actions k .result) ⌝ }
 {
@@ -71,7 +71,7 @@ pub fn value_at(acts: [Entry; 48], issued: usize, k: usize) -> Value
 }
 
 // What register n, counted over all processors, starts with.
-pub fn preset_of(c: Case, n: usize) -> Value
+fn preset_of(c: Case, n: usize) -> Value
     requires { ⌜ n < 32 ⌝ }
     ensures { λ r. ⌜ shownValue r ≡ presetOf c (n / 8) (n % 8) ⌝ }
 {
@@ -118,7 +118,7 @@ pub fn queued(e: Entry, p: usize) -> bool
 }
 
 // Whether processor p has a queued action.
-pub fn busy(acts: [Entry; 48], issued: usize, p: usize) -> bool
+fn busy(acts: [Entry; 48], issued: usize, p: usize) -> bool
     requires { ⌜ (issued ≤ 48) × (length acts ≡ 48) ⌝ }
     ensures { λ r. ⌜ ((c : TheCase) (s : State) → Acts c issued acts s → r ≡ someBelow (s .count) (λ k. waiting p (s .actions k))) ⌝ }
 {
@@ -153,7 +153,7 @@ pub fn finished(c: Case, m: Machine) -> bool
 }
 
 // What register n, counted over all processors, holds; that of an absent processor nothing.
-pub fn register(c: Case, names: &[u8; 32], acts: [Entry; 48], issued: usize, n: usize) -> Value
+fn register(c: Case, names: &[u8; 32], acts: [Entry; 48], issued: usize, n: usize) -> Value
     requires { ⌜ (issued ≤ 48) × (length acts ≡ 48) × (n < 32) ⌝ }
     ensures { λ r. ⌜ ((s : State) → Acts c issued acts s → s .names (n / 8) (n % 8) ≡ nameOf c (getD (now (names .entry)) n 0) → shownValue r ≡ registerOf c s (n / 8) (n % 8)) ⌝ }
 {
@@ -167,7 +167,7 @@ pub fn register(c: Case, names: &[u8; 32], acts: [Entry; 48], issued: usize, n: 
 }
 
 // Byte j of the three of a register.
-pub fn byte_of(v: Value, j: usize) -> u8
+fn byte_of(v: Value, j: usize) -> u8
     requires { ⌜ j < 3 ⌝ }
     ensures { λ r. ⌜ r ≡ getD (registerBytes (shownValue v)) j 0 ⌝ }
 {
@@ -201,7 +201,7 @@ pub fn registers(c: Case, m: Machine) -> [u8; 96]
 }
 
 // The entry of no action.
-pub fn blank() -> Entry
+fn blank() -> Entry
     ensures { λ r. ⌜ r ≡ blankEntry ⌝ }
 {
     Entry {
@@ -217,7 +217,7 @@ pub fn blank() -> Entry
 }
 
 // The name of each register at the start: its own number.
-pub const FIRST: [u8; 32] = [
+const FIRST: [u8; 32] = [
     0,
     1,
     2,

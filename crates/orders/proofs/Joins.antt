@@ -15,7 +15,7 @@ use Rattle.words.specs.Sets.{has}
 use Rattle.words.specs.Small.{someBelow}
 use Rattle.rules.specs.Order.{upTo, joined}
 use Rattle.orders.specs.Rows.{orderOf, SetOf, Reaches, joinedRow, JoinedTo, Joined}
-use Rattle.words.proofs.Bools.{decide}
+use Rattle.words.proofs.Bools.{decide, or-nothing}
 use Rattle.words.proofs.Sets.{has-or}
 
 and-false : (x y : Bool) → (x && false && y) ≡ false
@@ -63,13 +63,9 @@ order-joined : (old new : List ℕ) (l i mask : ℕ) (n : ℕ) (P : ℕ → Bool
 unfolding joined
 order-joined old new l i mask n P hl hi u hm = fun-ext (λ (a : ℕ). fun-ext (at a))
   where
-    or-no : (x : Bool) → x ≡ (x || false)
-    or-no true = refl
-    or-no false = refl
-
     inside : (a b : ℕ) → b < 56 → (w : Bool) → (eqb b i || has (getD old (56 * l + b) 0) i) ≡ w → orderOf new l a b ≡ (orderOf old l a b || (w && someBelow n (λ p. P p && upTo (orderOf old l) a p)))
     inside a b k true e = order-at new l a b hl k ∙ ap (λ (x : ℕ). has x a) (u .low b k ∙ joined-yes (getD old (56 * l + b) 0) b i mask e) ∙ has-or (getD old (56 * l + b) 0) mask a ∙ rw (order-at old l a b hl k, hm a)
-    inside a b k false e = order-at new l a b hl k ∙ ap (λ (x : ℕ). has x a) (u .low b k ∙ joined-no (getD old (56 * l + b) 0) b i mask e) ∙ rw (order-at old l a b hl k) (or-no (has (getD old (56 * l + b) 0) a))
+    inside a b k false e = order-at new l a b hl k ∙ ap (λ (x : ℕ). has x a) (u .low b k ∙ joined-no (getD old (56 * l + b) 0) b i mask e) ∙ rw (order-at old l a b hl k) (sym (or-nothing (has (getD old (56 * l + b) 0) a)))
 
     within : (a b : ℕ) → b < 56 → orderOf new l a b ≡ (orderOf old l a b || ((eqb b i || orderOf old l i b) && someBelow n (λ p. P p && upTo (orderOf old l) a p)))
     within a b k = rw (order-at old l i b hl k) (inside a b k (eqb b i || has (getD old (56 * l + b) 0) i) refl)

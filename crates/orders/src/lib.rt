@@ -20,7 +20,7 @@ pub fn before(rows: &[u64; 448], l: usize, a: usize, b: usize) -> bool
 }
 
 // Item e and what stands before it.
-pub fn up_to(rows: &[u64; 448], l: usize, e: usize) -> u64
+fn up_to(rows: &[u64; 448], l: usize, e: usize) -> u64
     requires { ⌜ (l < 8) × (e < 56) ⌝ }
     ensures { λ r. ⌜ ((a : ℕ) → inSet r a ≡ upTo (orderOf (now (rows .entry)) l) a e) ⌝ }
 {
@@ -29,7 +29,7 @@ pub fn up_to(rows: &[u64; 448], l: usize, e: usize) -> u64
 }
 
 // Row b once the mask is put before item i.
-pub fn joined_row(row: u64, b: usize, i: usize, mask: u64) -> u64
+fn joined_row(row: u64, b: usize, i: usize, mask: u64) -> u64
     ensures { λ r. ⌜ r ≡ joinedRow row b i mask ⌝ }
 {
     if b == i {
@@ -42,7 +42,7 @@ pub fn joined_row(row: u64, b: usize, i: usize, mask: u64) -> u64
 }
 
 // Puts the mask before item i of location l and before every item after it.
-pub fn spread(rows: &mut [u64; 448], l: usize, i: usize, mask: u64)
+fn spread(rows: &mut [u64; 448], l: usize, i: usize, mask: u64)
     requires { ⌜ (l < 8) × (length (now rows) ≡ 448) ⌝ }
     ensures { λ _. ⌜ (length (now (rows .exit)) ≡ 448) × JoinedTo (now (rows .entry)) (now (rows .exit)) l i mask 56 ⌝ }
 {
@@ -67,7 +67,7 @@ pub fn with(x: u64, n: usize, test: bool) -> u64
 }
 
 // Item e and what stands before it, where the test passes, else nothing.
-pub fn up_to_if(rows: &[u64; 448], l: usize, e: usize, test: bool) -> u64
+fn up_to_if(rows: &[u64; 448], l: usize, e: usize, test: bool) -> u64
     requires { ⌜ (l < 8) × (e < 56) ⌝ }
     ensures { λ r. ⌜ ((a : ℕ) → inSet r a ≡ (test && upTo (orderOf (now (rows .entry)) l) a e)) ⌝ }
 {
@@ -78,7 +78,7 @@ pub fn up_to_if(rows: &[u64; 448], l: usize, e: usize, test: bool) -> u64
 }
 
 // The items of a set, all below n, and what stands before one of them in the order of location l.
-pub fn reach(rows: &[u64; 448], l: usize, items: u64, n: usize) -> u64
+fn reach(rows: &[u64; 448], l: usize, items: u64, n: usize) -> u64
     requires { ⌜ (l < 8) × (n ≤ 56) ⌝ }
     ensures { λ r. ⌜ ((P : ℕ → Bool) → SetOf n P items → Reaches (orderOf (now (rows .entry)) l) n P r) ⌝ }
 {

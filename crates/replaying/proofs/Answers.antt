@@ -7,13 +7,14 @@ use native.Mathlib.Omega.{arith}
 use lib.Dec.{eqb, ltb}
 use lib.ListN.{length, replicate}
 use borrow.Author.Tests.{eq-eqb, ne-eqb, eqb-true, lt-ltb, le-ltb, ltb-true, not-false}
+use Rattle.cases.proofs.Decoding.{readOf-code, readOf-case}
 use Rattle.words.specs.Refusals.{Refusal, _when_, firstOf}
 use Rattle.words.proofs.Bools.{and-both, or-none}
 use Rattle.words.proofs.First.{First, first, hit, miss, first-none}
 use Rattle.words.proofs.Passed.{positive}
 use Rattle.cases.specs.declared.Case.{Case}
 use Rattle.cases.specs.declared.CaseRead.{CaseRead}
-use Rattle.cases.specs.Block.{refusals, caseOf, answered, readOf}
+use Rattle.cases.specs.Block.{refusals, caseOf, readOf}
 use Rattle.runs.specs.Replay.{replay}
 use Rattle.rules.specs.State.{initial}
 use Rattle.rules.specs.Step.{stepsOf}
@@ -62,13 +63,8 @@ module _ (block schedule : List ℕ) (size : ℕ) where
   unfolding replayRefusals
   codes-are = append-first (refusals block) (lengthRefusals (length schedule) size) refl
 
-  answered-code : (n : ℕ) (c : Case) → answered n c .code ≡ n
-  answered-code zero c = refl
-  answered-code (suc n) c = refl
-
   pub read-code : (r : CaseRead) → r ≡ readOf block → r .code ≡ own
-  unfolding readOf
-  read-code r h = ap (λ (x : CaseRead). x .code) h ∙ answered-code own (caseOf block)
+  read-code r h = ap (λ (x : CaseRead). x .code) h ∙ readOf-code block
 
   -- refused before the first step
   pub refused : (n : ℕ) (out : List ℕ) → n ≡ all → (n ≡ 0 → ⊥) → out ≡ replicate size 0 → IsReplay block schedule size (record { code = n; steps = 0 }) out
@@ -97,8 +93,7 @@ module _ (block schedule : List ℕ) (size : ℕ) where
     lengths-none = split own (firstOf (lengthRefusals (length schedule) size)) zero-code .1
 
     pub case-is : (r : CaseRead) → r ≡ readOf block → r .case ≡ caseOf block
-    unfolding readOf
-    case-is r h = ap (λ (x : CaseRead). x .case) h ∙ ap (λ (n : ℕ). answered n (caseOf block) .case) own-none
+    case-is r h = ap (λ (x : CaseRead). x .case) h ∙ readOf-case block own-none
 
     pub case-fit : Fit (caseOf block)
     case-fit = fit block (first-none 1 _ _ (first-none 0 _ _ own-none .1) .1)

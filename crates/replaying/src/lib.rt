@@ -32,7 +32,7 @@ pub struct Walked {
 }
 
 // Takes the steps of a schedule until one is refused.
-pub fn walk(c: Case, schedule: &[u8]) -> Walked
+fn walk(c: Case, schedule: &[u8]) -> Walked
     requires { ⌜ Fit c × (length (now schedule) % 4 ≡ 0) ⌝ }
     ensures { λ r. ⌜ IsWalk c (stepsOf (now (schedule .entry))) r ⌝ }
 {
@@ -78,7 +78,7 @@ fn one_if(test: bool) -> u8
 }
 
 // How many actions processor p has in its queue.
-pub fn queue_length(acts: [Entry; 48], issued: usize, p: usize) -> u8
+fn queue_length(acts: [Entry; 48], issued: usize, p: usize) -> u8
     requires { ⌜ (issued ≤ 48) × (length acts ≡ 48) ⌝ }
     ensures { λ r. ⌜ ((c : TheCase) (s : State) → Acts c issued acts s → r ≡ howMany (s .count) (λ k. waiting p (s .actions k))) ⌝ }
 {
@@ -94,7 +94,7 @@ pub fn queue_length(acts: [Entry; 48], issued: usize, p: usize) -> u8
 }
 
 // The place counter of processor p, then its queue's length, in the bytes after the registers; 0 of an absent processor.
-pub fn tail_byte(c: Case, places: &[u8; 4], acts: [Entry; 48], issued: usize, j: usize) -> u8
+fn tail_byte(c: Case, places: &[u8; 4], acts: [Entry; 48], issued: usize, j: usize) -> u8
     requires { ⌜ (issued ≤ 48) × (length acts ≡ 48) × (j < 8) ⌝ }
     ensures { λ r. ⌜ ((s : State) → Acts c issued acts s → ((p : ℕ) → s .places p ≡ placeOf (getD (now (places .entry)) p 0)) → r ≡ getD (tailOf c s) j 0) ⌝ }
 {
@@ -109,7 +109,7 @@ pub fn tail_byte(c: Case, places: &[u8; 4], acts: [Entry; 48], issued: usize, j:
 }
 
 // Byte i of the result: the registers, then the rest.
-pub fn result_byte<'a>(
+fn result_byte<'a>(
     c: Case,
     registers: &'a [u8; 96],
     places: &'a [u8; 4],
@@ -127,7 +127,7 @@ pub fn result_byte<'a>(
 }
 
 // Writes the 104 bytes of a result into a buffer.
-pub fn fill(
+fn fill(
     c: Case,
     registers: [u8; 96],
     places: [u8; 4],
@@ -147,7 +147,7 @@ pub fn fill(
 }
 
 // Writes the result of a machine into a buffer of 104 bytes.
-pub fn show(c: Case, m: Machine, result: &mut [u8])
+fn show(c: Case, m: Machine, result: &mut [u8])
     requires { ⌜ Valid c m × (length (now result) ≡ 104) ⌝ }
     ensures { λ _. ⌜ now (result .exit) ≡ resultBytes c (shown c m) ⌝ }
 {
@@ -159,7 +159,7 @@ pub fn show(c: Case, m: Machine, result: &mut [u8])
 }
 
 // The first of codes 1 to 9: code is the block's own.
-pub fn refusal(code: u8, schedule: usize, size: usize) -> u8
+fn refusal(code: u8, schedule: usize, size: usize) -> u8
     ensures { λ r. ⌜ r ≡ cond (eqb code 0) (firstOf (lengthRefusals schedule size)) code ⌝ }
 {
     if code != 0 {

@@ -2,12 +2,12 @@
 -- Assumes nothing.
 use mathlib.Core.Path.{_≡_, refl, sym, subst}
 use mathlib.Core.Logic.{_⊎_, inl, inr}
-use mathlib.Core.Bool.{Bool, true, _&&_, _||_}
+use mathlib.Core.Bool.{Bool, true, _&&_, _||_, false}
 use Prim.Native.Nat.{ℕ, _<_}
 use lib.Dec.{eqb}
 use borrow.Author.Tests.{eqb-true, eq-eqb}
 use Rattle.words.specs.Small.{someBelow}
-use Rattle.rules.specs.Order.{Order, upTo, joined}
+use Rattle.rules.specs.Order.{Order, upTo, joined, joinedIf}
 use Rattle.words.proofs.Bools.{or-cases, or-left, or-right, and-both, and-make, below-cases, below-make}
 
 abbrev pub Transitive : Order → Type 0
@@ -121,3 +121,15 @@ joined-swap R i n P j m Q t =
 
     tX : Transitive X
     tX = joined-transitive S i n P (joined-transitive R j m Q t)
+
+-- the closure, where there is something to join
+
+pub joinedIf-cases : (x : Bool) (R : Order) (i n : ℕ) (P : ℕ → Bool) (a b : ℕ) → joinedIf x R i n P a b ≡ true → (R a b ≡ true) ⊎ Via R i n P a b
+unfolding joinedIf
+joinedIf-cases true R i n P a b h = joined-cases R i n P a b h
+joinedIf-cases false R i n P a b h = inl h
+
+pub joinedIf-transitive : (b : Bool) (R : Order) (i n : ℕ) (P : ℕ → Bool) → Transitive R → Transitive (joinedIf b R i n P)
+unfolding joinedIf
+joinedIf-transitive true R i n P t = joined-transitive R i n P t
+joinedIf-transitive false R i n P t = t

@@ -6,7 +6,7 @@ use lib.Dec.{eqb}
 use borrow.Author.Tests.{ne-eqb}
 use Rattle.words.specs.Small.{someBelow}
 use Rattle.rules.specs.Order.{Order, upTo, joined, joinedIf}
-use Rattle.words.proofs.Bools.{and-both, and-make, bool-eq, below-cases, below-make}
+use Rattle.words.proofs.Bools.{and-both, and-make, bool-eq, below-cases, below-make, or-nothing}
 use Rattle.rules.proofs.Closed.{Transitive, joined-swap}
 
 pub joinedIf-false : (b : Bool) (R : Order) (i n : ℕ) (P : ℕ → Bool) → b ≡ false → joinedIf b R i n P ≡ R
@@ -41,9 +41,5 @@ joinedIf-ext false R i n m P Q f g = refl
 -- a new item changes nothing before the others
 pub joinedIf-old : (x : Bool) (R : Order) (i n : ℕ) (P : ℕ → Bool) (a b : ℕ) → R i b ≡ false → (b ≡ i → ⊥) → joinedIf x R i n P a b ≡ R a b
 unfolding joinedIf joined
-joinedIf-old true R i n P a b h d = rw (h, ne-eqb b i d) (end (R a b))
-  where
-    end : (r : Bool) → (r || false) ≡ r
-    end true = refl
-    end false = refl
+joinedIf-old true R i n P a b h d = rw (h, ne-eqb b i d) (or-nothing (R a b))
 joinedIf-old false R i n P a b h d = refl

@@ -17,13 +17,12 @@ use Rattle.cases.specs.declared.Case.{Case}
 use Rattle.runs.specs.Outcome.{Leads}
 use Rattle.runs.proofs.Always.{always-after}
 use Rattle.rules.specs.Kinds.{kind, releasing, heldBy}
-use Rattle.rules.specs.Order.{Order, joinedIf}
 use Rattle.rules.specs.State.{State, Action, initial, kindOf, waiting, standsAt}
 use Rattle.rules.specs.Issue.{earlier, issued}
 use Rattle.rules.specs.Commit.{input, heldBack, released, committed}
 use Rattle.rules.specs.Step.{Step}
 use Rattle.rules.specs.Womm.{womm}
-use Rattle.rules.proofs.Closed.{Transitive, UpTo, Via, joined-cases, joined-transitive}
+use Rattle.rules.proofs.Closed.{Transitive, UpTo, Via, joinedIf-cases, joinedIf-transitive}
 use Rattle.rules.proofs.Accepted.{CanCommit}
 use Rattle.rules.proofs.Actions.{either, by-step, waits-none, waits-proc, issued-old, issued-new, issued-count, committed-other, committed-self, committed-count, committed-keeps, item-cases}
 
@@ -31,16 +30,6 @@ use Rattle.rules.proofs.Actions.{either, by-step, waits-none, waits-pro
 
 abbrev pub Ordered : State → Type 0
 Ordered s = (l : ℕ) → Transitive (s .orders l)
-
-pub joinedIf-transitive : (b : Bool) (R : Order) (i n : ℕ) (P : ℕ → Bool) → Transitive R → Transitive (joinedIf b R i n P)
-unfolding joinedIf
-joinedIf-transitive true R i n P t = joined-transitive R i n P t
-joinedIf-transitive false R i n P t = t
-
-pub joinedIf-cases : (x : Bool) (R : Order) (i n : ℕ) (P : ℕ → Bool) (a b : ℕ) → joinedIf x R i n P a b ≡ true → (R a b ≡ true) ⊎ Via R i n P a b
-unfolding joinedIf
-joinedIf-cases true R i n P a b h = joined-cases R i n P a b h
-joinedIf-cases false R i n P a b h = inl h
 
 ordered-issue : (c : Case) (s : State) (p : ℕ) → Ordered s → Ordered (issued c s p)
 unfolding issued

@@ -24,7 +24,7 @@ pub fn kind_of(i: Instr) -> u8
 }
 
 // By committing kind, a row each, and queued kind: 0 no, 1 held back, 2 held back where the location is the same.
-pub const HOLD: [[u8; 8]; 8] = [
+const HOLD: [[u8; 8]; 8] = [
     [0, 0, 0, 0, 0, 0, 0, 0], // nothing
     [0, 0, 2, 0, 0, 0, 1, 0], // read
     [0, 0, 0, 0, 0, 0, 1, 0], // write
@@ -46,14 +46,14 @@ pub fn held_by(k: u8, q: u8, same: bool) -> bool
 }
 
 // x - y, wrapped at 65,536.
-pub fn difference(x: u16, y: u16) -> u16
+fn difference(x: u16, y: u16) -> u16
     ensures { λ r. ⌜ r ≡ (x + (65536 - y)) % 65536 ⌝ }
 {
     std::num::wrapping_sub_u16(x, y)
 }
 
 // 1 if x equals y, else 0.
-pub fn equal(x: u16, y: u16) -> u16
+fn equal(x: u16, y: u16) -> u16
     ensures { λ r. ⌜ r ≡ cond (eqb x y) 1 0 ⌝ }
 {
     if x == y { 1 } else { 0 }

@@ -14,7 +14,7 @@ pub struct Stepped {
 }
 
 // The code that a step gets.
-pub fn code_of(c: Case, m: Machine, kind: u8, proc: u8, action: u8, source: u8) -> u8
+fn code_of(c: Case, m: Machine, kind: u8, proc: u8, action: u8, source: u8) -> u8
     requires { ⌜ Valid c m ⌝ }
     ensures { λ r. ⌜ r ≡ stepCode c (shown c m) (stepOf kind proc action source) ⌝ }
 {
@@ -42,7 +42,7 @@ pub fn code_of(c: Case, m: Machine, kind: u8, proc: u8, action: u8, source: u8) 
 }
 
 // The machine after a step that nothing refuses.
-pub fn taken(c: Case, m: Machine, kind: u8, proc: u8, action: u8, source: u8) -> Machine
+fn taken(c: Case, m: Machine, kind: u8, proc: u8, action: u8, source: u8) -> Machine
     requires { ⌜ Valid c m × (stepCode c (shown c m) (stepOf kind proc action source) ≡ 0) ⌝ }
     ensures { λ r. ⌜ (shown c r ≡ after c (shown c m) (stepOf kind proc action source)) × Valid c r ⌝ }
 {

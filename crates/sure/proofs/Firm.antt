@@ -15,8 +15,7 @@ use Rattle.rules.specs.Commit.{writes, committed}
 use Rattle.rules.specs.State.{Action, standsAt, State, kindOf, initial}
 use Rattle.rules.specs.Step.{issue, Step, commit, neither, stepCode, after}
 use Rattle.rules.specs.Issue.{newAction, issued, earlier}
-use Rattle.rules.specs.Order.{joinedIf, Order}
-use Rattle.rules.proofs.Closed.{UpTo, Via, joined-cases}
+use Rattle.rules.proofs.Closed.{UpTo, Via, joinedIf-cases}
 use Rattle.rules.proofs.Accepted.{after-issue, after-commit, can-commit, between, Visible, visible-make, neither-no}
 use Rattle.sure.proofs.Kept.{unheld, issued-new, issued-old, committed-field, Kept, kept-commit, waits-none, waits-proc, item-kept, carry}
 use Rattle.sure.proofs.Good.{Good}
@@ -41,11 +40,6 @@ pub record Firm (s : State) : Type 0 where
 
 pub firm-initial : (c : Case) → Firm (initial c)
 firm-initial c = record { behind = λ l k b x y. absurd (false≢true x); drained = λ j k x y l p z. absurd (false≢true (sym y)) }
-
-pub joinedIf-cases : (x : Bool) (R : Order) (i n : ℕ) (P : ℕ → Bool) (a b : ℕ) → joinedIf x R i n P a b ≡ true → (R a b ≡ true) ⊎ Via R i n P a b
-unfolding joinedIf
-joinedIf-cases true R i n P a b h = joined-cases R i n P a b h
-joinedIf-cases false R i n P a b h = inl h
 
 module _ (c : Case) (s : State) (G : Good s) (F : Firm s) where
   module _ (p : ℕ) where

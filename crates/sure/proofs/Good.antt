@@ -21,7 +21,7 @@ use Rattle.rules.specs.Step.{Step, issue, after, stepCode, neither, commit}
 use Rattle.rules.specs.Issue.{placeAfter, here, newAction, issued, next, renamed}
 use Rattle.rules.specs.Womm.{womm}
 use Rattle.rules.specs.Order.{joinedIf, Order}
-use Rattle.rules.proofs.Closed.{Transitive, joined-cases, joined-transitive, UpTo, Via}
+use Rattle.rules.proofs.Closed.{Transitive, joined-cases, UpTo, Via, joinedIf-transitive}
 use Rattle.rules.proofs.Accepted.{after-issue, can-commit, neither-no, can-issue, CanIssue, after-commit}
 use Rattle.sure.proofs.Kept.{waits-none, waits-proc}
 use Rattle.sure.proofs.Commit.{Commit, the, CanTake, self, input, committedBy, settledBy}
@@ -71,11 +71,6 @@ pub record Good (s : State) : Type 0 where
   pub inputs : (k : ℕ) → AllBelow (s .count) (s .actions k .inputs)
   -- an order is of items
   pub bounded : (l a b : ℕ) → s .orders l a b ≡ true → (a < 8 + s .count) × (b < 8 + s .count)
-
-pub joinedIf-transitive : (b : Bool) (R : Order) (i n : ℕ) (P : ℕ → Bool) → Transitive R → Transitive (joinedIf b R i n P)
-unfolding joinedIf
-joinedIf-transitive true R i n P t = joined-transitive R i n P t
-joinedIf-transitive false R i n P t = t
 
 joinedIf-bounded : (b : Bool) (R : Order) (i n m : ℕ) (P : ℕ → Bool) → ((x y : ℕ) → R x y ≡ true → (x < m) × (y < m)) → i < m → n ≤ m → (x y : ℕ)
     → joinedIf b R i n P x y ≡ true → (x < m) × (y < m)

@@ -1,11 +1,11 @@
 -- Tests taken apart. Assumes nothing.
-use mathlib.Core.Path.{_≡_, refl, ap, sym, _∙_, subst, fun-ext}
+use mathlib.Core.Path.{_≡_, refl, ap, sym, _∙_, fun-ext}
 use mathlib.Core.Logic.{_⊎_, inl, inr, ⊎-elim}
-use mathlib.Core.Bool.{Bool, true, false, _&&_, _||_, not, cond, false≢true}
+use mathlib.Core.Bool.{Bool, true, false, _&&_, _||_, cond, false≢true}
 use mathlib.Core.List.{List, [], _∷_, List·Memᴰ, List·Memᴰ·head, List·Memᴰ·tail}
-use Prim.Native.Nat.{ℕ, zero, suc, _+_, _<_, _≤_}
+use Prim.Native.Nat.{ℕ, zero, suc, _<_}
 use native.Mathlib.Omega.{arith}
-use lib.Dec.{eqb, ltb, leb}
+use lib.Dec.{eqb}
 use borrow.Author.Tests.{eqb-true, eqb-false, eq-eqb, ne-eqb}
 use Rattle.words.specs.Small.{any, all, put, someBelow}
 
@@ -37,6 +37,14 @@ and-make a b h k = rw (h, k)
 
 pub or-false : (a b : Bool) → a ≡ false → b ≡ false → (a || b) ≡ false
 or-false a b h k = rw (h, k)
+
+pub or-nothing : (b : Bool) → (b || false) ≡ b
+or-nothing true = refl
+or-nothing false = refl
+
+pub and-true : (b : Bool) → (b && true) ≡ b
+and-true true = refl
+and-true false = refl
 
 pub and-rest : (a b : Bool) → (a && b) ≡ false → a ≡ true → b ≡ false
 and-rest true b h e = h
@@ -101,6 +109,9 @@ pub below-make : (n : ℕ) (f : ℕ → Bool) (k : ℕ) → k < n → f k ≡ tr
 unfolding someBelow
 below-make zero f k h e = absurd (omega arith)
 below-make (suc n) f k h e = ⊎-elim (λ q. or-left (f n) _ (ap f (sym (eqb-true k n q)) ∙ e)) (λ q. or-right (f n) _ (below-make n f k (omega (arith, eqb-false k n q)) e)) (decide (eqb k n))
+
+pub none-below : (n : ℕ) (f : ℕ → Bool) → someBelow n f ≡ false → (k : ℕ) → k < n → f k ≡ false
+none-below n f h k l = fails (someBelow n f) (f k) (below-make n f k l) h
 
 module _ (n : ℕ) (f g : ℕ → Bool) where
   pub below-fewer : ((k : ℕ) → k < n → g k ≡ true → f k ≡ true) → someBelow n f ≡ false → someBelow n g ≡ false
