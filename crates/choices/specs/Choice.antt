@@ -21,12 +21,12 @@ keyAt j = keyIn (j / 64) (j % 64)
 abbrev pub opensAt : Case → State → ℕ → Bool
 opensAt c s j = opens c s (j / 64) (j % 64)
 
--- The position of an accepted sure step, with n steps to go, or 3200 where there is none.
+-- Below 3200, the position of an accepted sure step, with n steps to go. From 3200 on, no commit of a sure kind is accepted; an issue may be sure all the same.
 pub record SureAt (c : Case) (n : ℕ) (s : State) (j : ℕ) : Type 0 where
   pub found : j < 3200 → (stepCode c s (stepBy s (keyAt j)) ≡ 0) × (sure c n s (stepBy s (keyAt j)) ≡ true)
   pub none : 3200 ≤ j → (k : ℕ) → k < s .count → sureKind (kindOf (s .actions k)) ≡ true → stepCode c s (stepBy s (taking k 0)) ≡ 0 → ⊥
 
--- The number of a quiet read that is accepted from some item, or 48 where there is none.
+-- Below 48, the number of a quiet read that is accepted from some item. From 48 on nothing is said: there may be one all the same.
 pub record QuietAt (c : Case) (s : State) (k : ℕ) : Type 0 where
   pub found : k < 48 → (quiet c s k ≡ true) × ((e : ℕ) × (stepCode c s (stepBy s (taking k e)) ≡ 0))
 
@@ -44,7 +44,7 @@ pub record Noted (now : List ℕ) (j : ℕ) (more : List ℕ) : Type 0 where
   pub new : spentBy more (keyAt j) ≡ true
   pub only : (a : Key) → spentBy more a ≡ true → (spentBy now a ≡ true) ⊎ (a ≡ keyAt j)
 
--- Of what the words say is spent, what the step t, taken at s, does not wake.
+-- Some of what the words say is spent, and nothing that the step t, taken at s, wakes.
 pub record RestedBy (s : State) (t : Step) (now less : List ℕ) : Type 0 where
   pub long : length less ≡ 50
   pub calm : (a : Key) → spentBy less a ≡ true → (spentBy now a ≡ true) × (wakes s t a ≡ false)
