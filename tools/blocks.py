@@ -82,53 +82,84 @@ def every_kind():
     return signed(block)
 
 
-H = signed(shape_h())
-SPARE = 92 + 72 * 3  # the first slot of an absent processor
-FIRST = 92  # the first slot of processor 0
+def second(*stores):
+    """H whose second instruction of processor 1 is a goto to the end, with bytes changed."""
+    slot = 92 + 72 + 6
+    return changed((slot, 8), (slot + 1, 0), (slot + 2, 0), (slot + 4, 2), *((slot + k, v) for k, v in stores))
 
+
+def damaged(block):
+    """The block with another check, and a byte too many."""
+    return block[:510] + bytes([block[510] ^ 1]) + block[511:] + b"\0"
+
+
+H = signed(shape_h())
+WRITE = 92  # processor 0, instruction 0: write
+READ = 92 + 72  # processor 1, instruction 0: read
+GOTO = 92 + 72 + 6  # processor 1, instruction 1, of `second`
+SPARE = 92 + 72 * 3  # the first slot of an absent processor
+
+# name, block, code, position
 BLOCKS = [
-    ("h", H, 0),
-    ("every-kind", every_kind(), 0),
-    ("empty", b"", 1),
-    ("short", H[:511], 1),
-    ("long", H + b"\0", 1),
-    ("check", H[:511] + bytes([H[511] ^ 1]), 2),
-    ("no-processor", changed((0, 0)), 3),
-    ("five-processors", changed((0, 5)), 3),
-    ("nine-locations", changed((1, 9)), 3),
-    ("bound-97", changed((2, 97)), 3),
-    ("byte-3", changed((3, 1)), 3),
-    ("count-13", changed((4, 13)), 4),
-    ("count-absent", changed((6, 1)), 4),
-    ("mask-absent", changed((10, 1)), 5),
-    ("preset-unset", changed((12 + 2 * 2, 1)), 5),
-    ("preset-absent", changed((12 + 16 * 2 + 1, 1)), 5),
-    ("word-absent", changed((76 + 2 * 2, 1)), 5),
-    ("op-0", changed((FIRST, 0)), 6),
-    ("op-11", changed((FIRST, 11)), 6),
-    ("register-8", changed((FIRST + 2, 8)), 6),
-    ("label-past", changed((FIRST, 8), (FIRST + 2, 0), (FIRST + 3, 0), (FIRST + 4, 3)), 6),
-    ("label-high", changed((FIRST, 8), (FIRST + 2, 0), (FIRST + 3, 0), (FIRST + 5, 1)), 6),
-    ("field-unused", changed((FIRST + 1, 1)), 6),
-    ("slot-unused", changed((FIRST + 6 * 2, 1)), 7),
-    ("slot-absent", changed((SPARE + 5, 1)), 7),
-    ("byte-381", changed((381, 1)), 7),
-    ("byte-509", changed((509, 1)), 7),
-    ("bad-for-5-6-7", changed((500, 1), (FIRST, 11), (11, 1)), 5),
-    ("bad-for-3-to-7", changed((500, 1), (FIRST, 11), (11, 1), (7, 1), (2, 97)), 3),
-    ("bad-for-all", (lambda b: b[:510] + bytes([b[510] ^ 1]) + b[511:] + b"\0")(changed((500, 1), (3, 1))), 1),
+    ("h", H, 0, 0),
+    ("every-kind", every_kind(), 0, 0),
+    ("goto", second(), 0, 0),
+    ("empty", b"", 1, 0),
+    ("short", H[:511], 1, 0),
+    ("long", H + b"\0", 1, 0),
+    ("check", H[:511] + bytes([H[511] ^ 1]), 2, 0),
+    ("no-processor", changed((0, 0)), 3, 0),
+    ("five-processors", changed((0, 5)), 3, 0),
+    ("no-location", changed((1, 0)), 3, 1),
+    ("nine-locations", changed((1, 9)), 3, 1),
+    ("bound-97", changed((2, 97)), 3, 2),
+    ("byte-3", changed((3, 1)), 3, 3),
+    ("count-13", changed((5, 13)), 4, 5),
+    ("count-absent", changed((6, 1)), 4, 6),
+    ("mask-absent", changed((10, 1)), 5, 10),
+    ("preset-unset", changed((12 + 2 * 2, 1)), 5, 16),
+    ("preset-unset-high", changed((12 + 2 * 2 + 1, 7)), 5, 17),
+    ("preset-absent", changed((12 + 16 * 2 + 1, 1)), 5, 45),
+    ("word-absent", changed((76 + 2 * 2, 1)), 5, 80),
+    ("word-absent-high", changed((76 + 2 * 7 + 1, 1)), 5, 91),
+    ("op-0", changed((WRITE, 0)), 6, WRITE),
+    ("op-11", changed((WRITE, 11)), 6, WRITE),
+    ("register-d", changed((READ + 1, 8)), 6, READ + 1),
+    ("register-a", changed((WRITE + 2, 8)), 6, WRITE + 2),
+    ("register-b", changed((WRITE + 3, 255)), 6, WRITE + 3),
+    ("label-past", second((4, 3)), 6, GOTO + 4),
+    ("label-high", second((4, 0), (5, 1)), 6, GOTO + 4),
+    ("label-branch", second((0, 7), (4, 3)), 6, GOTO + 4),
+    ("unused-d", changed((WRITE + 1, 1)), 6, WRITE + 1),
+    ("unused-a", second((2, 1)), 6, GOTO + 2),
+    ("unused-b", changed((READ + 3, 1)), 6, READ + 3),
+    ("unused-constant", changed((READ + 4, 1)), 6, READ + 4),
+    ("unused-constant-high", changed((READ + 5, 1)), 6, READ + 5),
+    ("slot-unused", changed((WRITE + 6 * 2, 1)), 7, WRITE + 12),
+    ("slot-absent", changed((SPARE + 5, 1)), 7, SPARE + 5),
+    ("byte-381", changed((381, 1)), 7, 381),
+    ("byte-509", changed((509, 1)), 7, 509),
+    ("two-bad-for-6", changed((READ + 3, 1), (WRITE + 5, 1)), 6, WRITE + 5),
+    ("bad-for-5-6-7", changed((500, 1), (WRITE, 11), (11, 1)), 5, 11),
+    ("bad-for-3-to-7", changed((500, 1), (WRITE, 11), (11, 1), (7, 1), (2, 97)), 3, 2),
+    ("bad-for-all", damaged(changed((500, 1), (3, 1))), 1, 0),
 ]
+
+
+def line(name, code, position):
+    return f"{name} code {code}" + (f" at {position}" if code else ", written again the same")
 
 
 def main():
     crate = pathlib.Path(sys.argv[1])
-    (crate / "data").mkdir(exist_ok=True)
-    lines = []
-    for name, block, code in BLOCKS:
-        (crate / "data" / name).write_bytes(bytes(block))
-        lines.append(f"{name} code {code}" + (", written again the same" if code == 0 else ""))
-    (crate / "args").write_text("".join(name + "\n" for name, _, _ in BLOCKS))
-    (crate / "stdout").write_text("".join(line + "\n" for line in lines))
+    data = crate / "data"
+    data.mkdir(exist_ok=True)
+    for old in data.iterdir():
+        old.unlink()
+    for name, block, _, _ in BLOCKS:
+        (data / name).write_bytes(bytes(block))
+    (crate / "args").write_text("".join(name + "\n" for name, _, _, _ in BLOCKS))
+    (crate / "stdout").write_text("".join(line(name, code, position) + "\n" for name, _, code, position in BLOCKS))
 
 
 main()

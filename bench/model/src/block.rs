@@ -1,22 +1,22 @@
 //! The case block: written by position, and judged byte by byte.
 
-use crate::{Case, Instr, Processor, Refusal, INSTRUCTIONS, LOCATIONS, PROCESSORS, REGISTERS, STEPS};
+use crate::{faults, Case, Instr, Processor, Reason, Refusal};
 
 pub const LENGTH: usize = 512;
 
-const COUNTS: usize = 4;
-const MASKS: usize = 8;
-const PRESETS: usize = 12;
-const MEMORY: usize = 76;
-const PROGRAMS: usize = 92;
-const TAIL: usize = 380;
-const CHECK: usize = 510;
+pub(crate) const COUNTS: usize = 4;
+pub(crate) const MASKS: usize = 8;
+pub(crate) const PRESETS: usize = 12;
+pub(crate) const MEMORY: usize = 76;
+pub(crate) const PROGRAMS: usize = 92;
+pub(crate) const TAIL: usize = 380;
+pub(crate) const CHECK: usize = 510;
 
-fn preset_at(p: usize, k: usize) -> usize {
+pub(crate) fn preset_at(p: usize, k: usize) -> usize {
     PRESETS + 16 * p + 2 * k
 }
 
-fn slot_at(p: usize, i: usize) -> usize {
+pub(crate) fn slot_at(p: usize, i: usize) -> usize {
     PROGRAMS + 72 * p + 6 * i
 }
 
@@ -60,65 +60,50 @@ fn write_processor(block: &mut [u8; LENGTH], p: usize, processor: &Processor) {
 
 /// The case of a block, or the first of codes 1 to 7 that applies.
 pub fn read(block: &[u8]) -> Result<Case, Refusal> {
-    let block: &[u8; LENGTH] = block.try_into().map_err(|_| Refusal::BlockLength)?;
+    let block: &[u8; LENGTH] = block.try_into().map_err(|_| Reason::BlockLength)?;
     if word(block, CHECK) != check(block) {
-        return Err(Refusal::Check);
+        return Err(Reason::Check.into());
     }
-    sizes(block)?;
-    counts(block)?;
-    zeros_of_8_to_91(block)?;
-    let processors = (0..block[0].into()).map(|p| read_processor(block, p)).collect::<Result<_, _>>()?;
-    zeros_from_92(block)?;
+    faults::judge(block)?;
     let memory = std::array::from_fn(|location| word(block, MEMORY + 2 * location));
+    let processors = (0..block[0].into()).map(|p| read_processor(block, p)).collect();
     Ok(Case { processors, locations: block[1], usual_bound: block[2], memory })
+}
+
+fn read_processor(block: &[u8; LENGTH], p: usize) -> Processor {
+    let instr = |i| Instr::read(std::array::from_fn(|j| block[slot_at(p, i) + j])).expect("a sound instruction");
+    Processor {
+        presets: std::array::from_fn(|k| is_set(block, p, k).then(|| word(block, preset_at(p, k)))),
+        program: (0..count(block, p)).map(instr).collect(),
+    }
+}
+
+/// Puts the check behind a buffer that holds a case; refused, the buffer is all zeros.
+pub fn close(buffer: &mut [u8]) -> Result<(), Refusal> {
+    let closed = closable(buffer).map(seal);
+    if closed.is_err() {
+        buffer.fill(0);
+    }
+    closed
+}
+
+/// A buffer as a block, if codes 1 and 3 to 7 do not apply.
+fn closable(buffer: &mut [u8]) -> Result<&mut [u8; LENGTH], Refusal> {
+    let block: &mut [u8; LENGTH] = buffer.try_into().map_err(|_| Reason::BlockLength)?;
+    faults::judge(block)?;
+    Ok(block)
 }
 
 fn word(block: &[u8; LENGTH], at: usize) -> u16 {
     u16::from_le_bytes([block[at], block[at + 1]])
 }
 
-fn sizes(block: &[u8; LENGTH]) -> Result<(), Refusal> {
-    let [processors, locations, bound, zero] = [0, 1, 2, 3].map(|at| usize::from(block[at]));
-    let sound = (1..=PROCESSORS).contains(&processors) && (1..=LOCATIONS).contains(&locations) && bound <= STEPS && zero == 0;
-    sound.then_some(()).ok_or(Refusal::Sizes)
+pub(crate) fn count(block: &[u8; LENGTH], p: usize) -> usize {
+    block[COUNTS + p].into()
 }
 
-fn counts(block: &[u8; LENGTH]) -> Result<(), Refusal> {
-    let sound = (0..PROCESSORS).all(|p| {
-        let most = if p < block[0].into() { INSTRUCTIONS } else { 0 };
-        usize::from(block[COUNTS + p]) <= most
-    });
-    sound.then_some(()).ok_or(Refusal::Counts)
-}
-
-/// Masks and presets of absent processors, unset presets, and words of absent locations.
-fn zeros_of_8_to_91(block: &[u8; LENGTH]) -> Result<(), Refusal> {
-    let processors = usize::from(block[0]);
-    let masks = (processors..PROCESSORS).all(|p| block[MASKS + p] == 0);
-    let presets = (0..PROCESSORS).all(|p| (0..REGISTERS).all(|k| is_set(block, p, k) || word(block, preset_at(p, k)) == 0));
-    let memory = (block[1].into()..LOCATIONS).all(|location| word(block, MEMORY + 2 * location) == 0);
-    (masks && presets && memory).then_some(()).ok_or(Refusal::NotZero)
-}
-
-fn is_set(block: &[u8; LENGTH], p: usize, k: usize) -> bool {
+pub(crate) fn is_set(block: &[u8; LENGTH], p: usize, k: usize) -> bool {
     block[MASKS + p] >> k & 1 == 1
-}
-
-fn read_processor(block: &[u8; LENGTH], p: usize) -> Result<Processor, Refusal> {
-    let count = block[COUNTS + p];
-    let instr = |i| Instr::read(std::array::from_fn(|j| block[slot_at(p, i) + j]), count);
-    Ok(Processor {
-        presets: std::array::from_fn(|k| is_set(block, p, k).then(|| word(block, preset_at(p, k)))),
-        program: (0..count.into()).map(instr).collect::<Option<_>>().ok_or(Refusal::Instruction)?,
-    })
-}
-
-/// Unused slots and 380..509.
-fn zeros_from_92(block: &[u8; LENGTH]) -> Result<(), Refusal> {
-    let unused = |p| slot_at(p, block[COUNTS + p].into())..slot_at(p + 1, 0);
-    let slots = (0..PROCESSORS).all(|p| block[unused(p)].iter().all(|&byte| byte == 0));
-    let tail = block[TAIL..CHECK].iter().all(|&byte| byte == 0);
-    (slots && tail).then_some(()).ok_or(Refusal::Unused)
 }
 
 #[cfg(test)]
@@ -160,52 +145,69 @@ mod tests {
         assert_eq!(u32::from(check(&[255; 512])), 255 * (510 * 511 / 2) % 65_521);
     }
 
-    /// The code after one byte is changed and the check put right.
-    fn code_with(at: usize, byte: u8) -> u32 {
+    /// The code and the position after one byte is changed and the check put right.
+    fn with(at: usize, byte: u8) -> (u32, u32) {
         let mut block = sample().block();
         block[at] = byte;
         seal(&mut block);
-        read(&block).map_or_else(Refusal::code, |_| 0)
+        read(&block).map_or_else(|refusal| (refusal.code(), refusal.position), |_| (0, 0))
     }
 
     #[test]
     fn refusals() {
-        assert_eq!(read(&[]), Err(Refusal::BlockLength));
-        assert_eq!(read(&[0; 513]), Err(Refusal::BlockLength));
+        assert_eq!(read(&[]), Err(Reason::BlockLength.into()));
+        assert_eq!(read(&[0; 513]), Err(Reason::BlockLength.into()));
         let mut block = sample().block();
         block[400] ^= 1;
-        assert_eq!(read(&block), Err(Refusal::Check));
+        assert_eq!(read(&block), Err(Reason::Check.into()));
         for (at, byte) in [(0, 0), (0, 5), (1, 0), (1, 9), (2, 97), (3, 1)] {
-            assert_eq!(code_with(at, byte), 3, "byte {at}");
+            assert_eq!(with(at, byte), (3, at as u32));
         }
-        for (at, byte) in [(4, 13), (6, 1), (0, 1)] {
-            assert_eq!(code_with(at, byte), 4, "byte {at}");
+        for (at, byte, position) in [(4, 13, 4), (6, 1, 6), (0, 1, 5)] {
+            assert_eq!(with(at, byte), (4, position), "byte {at}");
         }
-        for (at, byte) in [(8, 0), (10, 1), (12, 1), (13, 1), (44, 1), (82, 1), (91, 1), (1, 2)] {
-            assert_eq!(code_with(at, byte), 5, "byte {at}");
+        for (at, byte, position) in [(8, 0, 14), (10, 1, 10), (12, 1, 12), (13, 1, 13), (91, 1, 91), (1, 2, 80)] {
+            assert_eq!(with(at, byte), (5, position), "byte {at}");
         }
-        for (at, byte) in [(92, 0), (92, 11), (93, 1), (95, 8), (96, 1), (102, 3), (103, 1), (4, 3), (174, 3)] {
-            assert_eq!(code_with(at, byte), 6, "byte {at}");
+        for (at, byte, position) in [(92, 0, 92), (92, 11, 92), (93, 1, 93), (95, 8, 95), (97, 1, 97), (102, 3, 102)] {
+            assert_eq!(with(at, byte), (6, position), "byte {at}");
         }
-        for (at, byte) in [(104, 1), (4, 1), (163, 1), (236, 1), (379, 1), (380, 1), (509, 1)] {
-            assert_eq!(code_with(at, byte), 7, "byte {at}");
+        for (at, byte, position) in [(103, 1, 102), (4, 3, 104), (174, 3, 174), (175, 1, 174)] {
+            assert_eq!(with(at, byte), (6, position), "byte {at}");
+        }
+        for (at, byte, position) in [(104, 1, 104), (4, 1, 98), (163, 1, 163), (236, 1, 236), (380, 1, 380), (509, 1, 509)] {
+            assert_eq!(with(at, byte), (7, position), "byte {at}");
         }
         for (at, byte) in [(2, 96), (80, 1), (102, 0), (174, 2)] {
-            assert_eq!(code_with(at, byte), 0, "byte {at}");
+            assert_eq!(with(at, byte), (0, 0), "byte {at}");
         }
     }
 
     #[test]
+    fn a_buffer_is_closed_or_cleared() {
+        let sound = sample().block();
+        let mut open = sound;
+        open[510..].fill(7);
+        assert_eq!((close(&mut open), open), (Ok(()), sound));
+        open[95] = 8;
+        assert_eq!(close(&mut open), Err(Refusal { reason: Reason::Instruction, position: 95 }));
+        assert_eq!(open, [0; LENGTH]);
+        let mut short = [7; 511];
+        assert_eq!((close(&mut short), short), (Err(Reason::BlockLength.into()), [0; 511]));
+    }
+
+    #[test]
     fn the_builder_refuses_what_no_block_holds() {
-        let code = |builder: crate::CaseBuilder| builder.build().map_or_else(Refusal::code, |_| 0);
-        assert_eq!(code(Case::builder(5, 1)), 3);
-        assert_eq!(code(Case::builder(0, 1)), 3);
-        assert_eq!(code(Case::builder(1, 9)), 3);
-        assert_eq!(code(Case::builder(1, 1).program(0, &[goto(0); 13])), 4);
-        assert_eq!(code(Case::builder(1, 1).program(1, &[])), 4);
-        assert_eq!(code(Case::builder(1, 1).memory(1, 0)), 5);
-        assert_eq!(code(Case::builder(1, 1).preset(1, 0, 0)), 5);
-        assert_eq!(code(Case::builder(1, 1).program(0, &[goto(2)])), 6);
-        assert_eq!(code(Case::builder(4, 8).program(3, &[goto(12); 12])), 0);
+        let refused =
+            |builder: crate::CaseBuilder| builder.build().map_or_else(|refusal| (refusal.code(), refusal.position), |_| (0, 0));
+        assert_eq!(refused(Case::builder(5, 1)), (3, 0));
+        assert_eq!(refused(Case::builder(0, 1)), (3, 0));
+        assert_eq!(refused(Case::builder(1, 9)), (3, 1));
+        assert_eq!(refused(Case::builder(1, 1).program(0, &[goto(0); 13])), (4, 4));
+        assert_eq!(refused(Case::builder(1, 1).program(1, &[])), (4, 5));
+        assert_eq!(refused(Case::builder(1, 1).memory(1, 0)), (5, 78));
+        assert_eq!(refused(Case::builder(1, 1).preset(1, 0, 0)), (5, 9));
+        assert_eq!(refused(Case::builder(1, 1).program(0, &[goto(2)])), (6, 96));
+        assert_eq!(refused(Case::builder(4, 8).program(3, &[goto(12); 12])), (0, 0));
     }
 }

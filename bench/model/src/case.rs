@@ -1,4 +1,5 @@
-use crate::{block, Instr, Refusal, INSTRUCTIONS, LOCATIONS, PROCESSORS, REGISTERS, STEPS};
+use crate::block::{self, COUNTS, MASKS, MEMORY};
+use crate::{Instr, Reason, Refusal, INSTRUCTIONS, LOCATIONS, PROCESSORS, REGISTERS, STEPS};
 
 /// One processor of a case: what its registers start with, and its instructions.
 #[derive(Clone, Debug, Default, PartialEq, Eq)]
@@ -65,7 +66,7 @@ impl CaseBuilder {
     pub fn preset(mut self, p: usize, k: usize, value: u16) -> Self {
         match self.case.processors.get_mut(p).and_then(|held| held.presets.get_mut(k)) {
             Some(place) => *place = Some(value),
-            None => self.refuse(Refusal::NotZero),
+            None => self.refuse(Reason::NotZero, MASKS + p.min(PROCESSORS - 1)),
         }
         self
     }
@@ -75,7 +76,7 @@ impl CaseBuilder {
         if location < self.case.locations.into() && location < LOCATIONS {
             self.case.memory[location] = value;
         } else {
-            self.refuse(Refusal::NotZero);
+            self.refuse(Reason::NotZero, MEMORY + 2 * location.min(LOCATIONS - 1));
         }
         self
     }
@@ -84,7 +85,7 @@ impl CaseBuilder {
     pub fn program(mut self, p: usize, instrs: &[Instr]) -> Self {
         match self.case.processors.get_mut(p) {
             Some(held) => held.program.extend(instrs),
-            None => self.refuse(Refusal::Counts),
+            None => self.refuse(Reason::Counts, COUNTS + p.min(PROCESSORS - 1)),
         }
         self
     }
@@ -98,11 +99,12 @@ impl CaseBuilder {
     pub fn build(mut self) -> Result<Case, Refusal> {
         let processors = (1..=PROCESSORS).contains(&self.case.processors.len());
         let locations = (1..=LOCATIONS).contains(&self.case.locations.into());
-        if !processors || !locations || usize::from(self.case.usual_bound) > STEPS {
-            self.refuse(Refusal::Sizes);
+        let bound = usize::from(self.case.usual_bound) <= STEPS;
+        if let Some(position) = [processors, locations, bound].iter().position(|sound| !sound) {
+            self.refuse(Reason::Sizes, position);
         }
-        if self.case.processors.iter().any(|held| held.program.len() > INSTRUCTIONS) {
-            self.refuse(Refusal::Counts);
+        if let Some(p) = self.case.processors.iter().position(|held| held.program.len() > INSTRUCTIONS) {
+            self.refuse(Reason::Counts, COUNTS + p);
         }
         match self.refused {
             Some(refusal) => Err(refusal),
@@ -110,7 +112,9 @@ impl CaseBuilder {
         }
     }
 
-    fn refuse(&mut self, refusal: Refusal) {
+    /// Notes a refusal at a byte; the first code counts, then the lowest byte.
+    fn refuse(&mut self, reason: Reason, position: usize) {
+        let refusal = Refusal { reason, position: position as u32 };
         self.refused = Some(self.refused.map_or(refusal, |before| before.min(refusal)));
     }
 }

@@ -36,11 +36,11 @@ impl Instr {
         [op, d, a, b, low, high]
     }
 
-    /// The instruction that six bytes stand for in a program of `count` instructions, if they are sound.
-    pub fn read(bytes: [u8; 6], count: u8) -> Option<Instr> {
+    /// The instruction of six bytes, if their op is one.
+    pub fn read(bytes: [u8; 6]) -> Option<Instr> {
         let [op, d, a, b, low, high] = bytes;
         let constant = u16::from_le_bytes([low, high]);
-        let instr = match op {
+        Some(match op {
             1 => Read { d, a },
             2 => Write { a, b },
             3 => Set { d, constant },
@@ -52,11 +52,17 @@ impl Instr {
             9 => Acquire { a },
             10 => Release { a },
             _ => return None,
-        };
-        let unused_are_zero = instr.bytes() == bytes;
-        let registers = [d, a, b].iter().all(|&r| usize::from(r) < REGISTERS);
-        let label = !matches!(instr, Branch { .. } | Goto { .. }) || constant <= count.into();
-        (unused_are_zero && registers && label).then_some(instr)
+        })
+    }
+
+    /// Which of six bytes are bad in a program of `count` instructions: an op that is none, a register over 7, a
+    /// field that is not named and not zero, and the low byte of a label over the count.
+    pub fn bad_bytes(bytes: [u8; 6], count: u8) -> Vec<usize> {
+        let Some(instr) = Instr::read(bytes) else { return vec![0] };
+        let named = instr.bytes();
+        let register = |at: usize| (1..4).contains(&at) && usize::from(bytes[at]) >= REGISTERS;
+        let label = matches!(instr, Branch { label, .. } | Goto { label } if label > count.into());
+        (0..6).filter(|&at| bytes[at] != named[at] || register(at) || label && at == 4).collect()
     }
 
     /// The registers read.

@@ -2,17 +2,22 @@
 #![forbid(unsafe_code)]
 
 pub mod block;
+mod calls;
 mod case;
+mod faults;
+mod field;
 mod instr;
-mod listers;
 mod outcome;
+mod reason;
 mod refusal;
 mod schedule;
 
+pub use calls::{Codec, Coded, Listed, Lister, Replayed, Replayer};
 pub use case::{Case, CaseBuilder, Processor};
 pub use instr::{ops, Instr};
-pub use listers::{Listed, Lister, Replayed, Replayer};
+
 pub use outcome::{Ending, Outcome, ENDING, RECORD};
+pub use reason::Reason;
 pub use refusal::Refusal;
 pub use schedule::{schedule, Step};
 

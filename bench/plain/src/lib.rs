@@ -2,13 +2,14 @@
 //! the outcomes gather in an ordered set. The baseline for times.
 #![forbid(unsafe_code)]
 
+mod bytes;
 mod machine;
 
 pub use machine::Machine;
 
 use std::collections::BTreeSet;
 
-use model::{block, Case, Listed, Lister, Outcome, Refusal, Replayed, Replayer, Step, ENDING, RECORD, STEPS};
+use model::{Case, Codec, Coded, Listed, Lister, Outcome, Reason, Refusal, Replayed, Replayer, Step, ENDING, RECORD, STEPS};
 
 /// All outcomes within a bound.
 #[derive(Clone, Debug, Default)]
@@ -44,47 +45,64 @@ fn explore(machine: &Machine, left: u8, listing: &mut Listing) {
 /// The search behind the bytes that the library takes.
 pub struct Plain;
 
+impl Codec for Plain {
+    fn read(&self, block: &[u8]) -> Coded {
+        Coded::of(bytes::case(block).map(|_| ()))
+    }
+
+    fn write(&self, block: &mut [u8]) -> Coded {
+        Coded::of(bytes::close(block))
+    }
+}
+
 impl Lister for Plain {
     fn outcomes(&self, block: &[u8], bound: u32, records: &mut [u8]) -> Listed {
         records.fill(0);
-        let refused = |refusal: Refusal| Listed { code: refusal.code(), count: 0, cut: false };
-        let case = match block::read(block) {
-            Ok(case) => case,
-            Err(refusal) => return refused(refusal),
-        };
-        if bound > STEPS as u32 {
-            return refused(Refusal::Bound);
+        match listed(block, bound, records) {
+            Ok(listing) => Listed { code: 0, count: listing.outcomes.len() as u32, cut: listing.cut, position: 0 },
+            Err(refusal) => Listed::refused(refusal),
         }
-        let listing = list(&case, bound as u8);
-        if listing.outcomes.len() * RECORD > records.len() {
-            return refused(Refusal::Room);
-        }
-        for (i, outcome) in listing.outcomes.iter().enumerate() {
-            records[i * RECORD..(i + 1) * RECORD].copy_from_slice(&outcome.bytes());
-        }
-        Listed { code: 0, count: listing.outcomes.len() as u32, cut: listing.cut }
     }
+}
+
+fn listed(block: &[u8], bound: u32, records: &mut [u8]) -> Result<Listing, Refusal> {
+    let case = bytes::case(block)?;
+    if bound > STEPS as u32 {
+        return Err(Reason::Bound.into());
+    }
+    let listing = list(&case, bound as u8);
+    if listing.outcomes.len() * RECORD > records.len() {
+        return Err(Reason::Room.into());
+    }
+    for (i, outcome) in listing.outcomes.iter().enumerate() {
+        records[i * RECORD..(i + 1) * RECORD].copy_from_slice(&outcome.bytes());
+    }
+    Ok(listing)
 }
 
 impl Replayer for Plain {
     fn replay(&self, block: &[u8], schedule: &[u8], result: &mut [u8]) -> Replayed {
         result.fill(0);
-        let refused = |refusal: Refusal| Replayed { code: refusal.code(), steps: 0 };
-        let case = match block::read(block) {
+        let case = match replayable(block, schedule, result.len()) {
             Ok(case) => case,
-            Err(refusal) => return refused(refusal),
+            Err(refusal) => return Replayed::refused(refusal),
         };
-        if !schedule.len().is_multiple_of(4) || schedule.len() / 4 > STEPS {
-            return refused(Refusal::ScheduleLength);
-        }
-        if result.len() != ENDING {
-            return refused(Refusal::ResultLength);
-        }
         let mut machine = Machine::new(&case);
         let (code, steps) = run(&mut machine, schedule);
         result.copy_from_slice(&machine.ending().bytes());
-        Replayed { code, steps }
+        Replayed { code, steps, position: 0 }
     }
+}
+
+fn replayable(block: &[u8], schedule: &[u8], room: usize) -> Result<Case, Refusal> {
+    let case = bytes::case(block)?;
+    if !schedule.len().is_multiple_of(4) || schedule.len() / 4 > STEPS {
+        return Err(Reason::ScheduleLength.into());
+    }
+    if room != ENDING {
+        return Err(Reason::ResultLength.into());
+    }
+    Ok(case)
 }
 
 /// Takes steps up to the first refused one; its code and the number of steps before it.
@@ -94,10 +112,10 @@ fn run(machine: &mut Machine, schedule: &[u8]) -> (u32, u32) {
         let step = match *bytes {
             [0, processor, 0, 0] => Step::Issue { processor },
             [1, processor, action, source] => Step::Commit { processor, action, source },
-            _ => return (Refusal::BadStep.code(), steps),
+            _ => return (Reason::BadStep.code(), steps),
         };
-        if let Err(refusal) = machine.check(step) {
-            return (refusal.code(), steps);
+        if let Err(reason) = machine.check(step) {
+            return (reason.code(), steps);
         }
         machine.take(step);
         steps += 1;

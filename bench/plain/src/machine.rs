@@ -1,4 +1,4 @@
-use model::{Case, Ending, Instr, Outcome, Refusal, Step, ACTIONS, LOCATIONS, PROCESSORS, REGISTERS};
+use model::{Case, Ending, Instr, Outcome, Reason, Step, ACTIONS, LOCATIONS, PROCESSORS, REGISTERS};
 
 /// What a register name stands for.
 #[derive(Clone, Copy)]
@@ -96,10 +96,10 @@ impl<'a> Machine<'a> {
     }
 
     /// Whether a step is accepted, or the first refusal that applies.
-    pub fn check(&self, step: Step) -> Result<(), Refusal> {
+    pub fn check(&self, step: Step) -> Result<(), Reason> {
         let (Step::Issue { processor } | Step::Commit { processor, .. }) = step;
         if usize::from(processor) >= self.case.processors().len() {
-            return Err(Refusal::BadStep);
+            return Err(Reason::BadStep);
         }
         match step {
             Step::Issue { processor } => self.check_issue(processor.into()),
@@ -107,47 +107,47 @@ impl<'a> Machine<'a> {
         }
     }
 
-    fn check_issue(&self, p: usize) -> Result<(), Refusal> {
-        let place = self.places[p].ok_or(Refusal::PlaceUndefined)?;
-        let instr = self.program(p).get(usize::from(place)).ok_or(Refusal::AtEnd)?;
+    fn check_issue(&self, p: usize) -> Result<(), Reason> {
+        let place = self.places[p].ok_or(Reason::PlaceUndefined)?;
+        let instr = self.program(p).get(usize::from(place)).ok_or(Reason::AtEnd)?;
         if self.actions.len() == ACTIONS {
-            return Err(Refusal::TooManyActions);
+            return Err(Reason::TooManyActions);
         }
         if let Some(register) = instr.address() {
-            let address = self.value(self.names[p][usize::from(register)]).ok_or(Refusal::AddressUndefined)?;
+            let address = self.value(self.names[p][usize::from(register)]).ok_or(Reason::AddressUndefined)?;
             if address >= self.case.locations().into() {
-                return Err(Refusal::AddressRange);
+                return Err(Reason::AddressRange);
             }
         }
         Ok(())
     }
 
-    fn check_commit(&self, p: usize, k: usize, source: usize) -> Result<(), Refusal> {
-        let (_, action) = self.queue(p).find(|&(queued, _)| queued == k).ok_or(Refusal::NoSuchAction)?;
+    fn check_commit(&self, p: usize, k: usize, source: usize) -> Result<(), Reason> {
+        let (_, action) = self.queue(p).find(|&(queued, _)| queued == k).ok_or(Reason::NoSuchAction)?;
         if source != 0 && !matches!(action.instr, Instr::Read { .. }) {
-            return Err(Refusal::SourceGiven);
+            return Err(Reason::SourceGiven);
         }
         if self.queue(p).take_while(|&(earlier, _)| earlier < k).any(|(_, earlier)| waits_for(action, earlier)) {
-            return Err(Refusal::HeldBack);
+            return Err(Reason::HeldBack);
         }
         let registers = action.instr.inputs().count();
         if action.inputs[..registers].iter().any(|&name| self.value(name).is_none()) {
-            return Err(Refusal::RegisterUndefined);
+            return Err(Reason::RegisterUndefined);
         }
         match action.instr {
-            Instr::Read { .. } if !self.visible(k, source) => Err(Refusal::NotVisible),
+            Instr::Read { .. } if !self.visible(k, source) => Err(Reason::NotVisible),
             Instr::Acquire { .. } => self.check_lock(action, |holder| holder.is_none() || holder == Some(p)),
             Instr::Release { .. } => self.check_lock(action, |holder| holder == Some(p)),
             _ => Ok(()),
         }
     }
 
-    fn check_lock(&self, action: &Action, allowed: impl Fn(Option<usize>) -> bool) -> Result<(), Refusal> {
+    fn check_lock(&self, action: &Action, allowed: impl Fn(Option<usize>) -> bool) -> Result<(), Reason> {
         let location = self.value(action.inputs[0]).map_or(LOCATIONS, usize::from);
         if location >= self.case.locations().into() {
-            return Err(Refusal::LockRange);
+            return Err(Reason::LockRange);
         }
-        allowed(self.holders[location]).then_some(()).ok_or(Refusal::LockState)
+        allowed(self.holders[location]).then_some(()).ok_or(Reason::LockState)
     }
 
     /// Whether the read k may take an item.

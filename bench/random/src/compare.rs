@@ -1,21 +1,25 @@
 use std::env;
 use std::process::ExitCode;
 
-use model::{Listed, Lister, Replayed, Replayer, RECORD};
+use model::{block, Codec, Coded, Listed, Lister, Replayed, Replayer, RECORD};
 
 use crate::{Inputs, ListInput, ReplayInput, Tally};
 
-/// An implementation of both calls.
-pub trait Both: Lister + Replayer {}
+/// An implementation of every call that is compared.
+pub trait Calls: Codec + Lister + Replayer {}
 
-impl<T: Lister + Replayer> Both for T {}
+impl<T: Codec + Lister + Replayer> Calls for T {}
 
 /// Every length of a schedule or a buffer up to this is handed over.
 pub(crate) const LENGTHS: usize = 400;
 /// A record buffer's length is also every multiple of 96 up to so many, with one byte less and one more.
 pub(crate) const RECORDS: usize = 40;
 
-/// How much to compare, beside the lengths.
+/// How often a block is damaged at each of its bytes, and how many are damaged at several.
+const SWEEPS: usize = 40;
+const DAMAGED: usize = 20_000;
+
+/// How much to compare, beside the lengths and the damaged blocks.
 #[derive(Clone, Copy, Debug)]
 pub struct Plan {
     pub seed: u64,
@@ -28,12 +32,14 @@ pub struct Plan {
 /// An input on which the two differ, in the answer or in a byte of the buffer.
 #[derive(Debug)]
 pub enum Mismatch {
+    Read { block: Vec<u8>, reference: Coded, other: Coded },
+    Write { block: Vec<u8>, reference: Coded, other: Coded },
     List { input: ListInput, reference: Listed, other: Listed },
     Replay { input: ReplayInput, reference: Replayed, other: Replayed },
 }
 
 /// Hands the same random inputs to both, in buffers that are not zero before.
-pub fn compare(plan: Plan, reference: &dyn Both, other: &dyn Both) -> Result<Tally, Box<Mismatch>> {
+pub fn compare(plan: Plan, reference: &dyn Calls, other: &dyn Calls) -> Result<Tally, Box<Mismatch>> {
     let mut comparison = Comparison { tally: Tally::default(), reference, other };
     let mut inputs = Inputs::new(plan.seed);
     for _ in 0..plan.lists {
@@ -49,6 +55,12 @@ pub fn compare(plan: Plan, reference: &dyn Both, other: &dyn Both) -> Result<Tal
         comparison.replay(inputs.to_replay_of(length, &comparison.tally))?;
         comparison.replay(inputs.to_replay_into(length, &comparison.tally))?;
     }
+    for at in (0..SWEEPS).flat_map(|_| 0..block::LENGTH) {
+        comparison.block(inputs.to_judge(&[at]))?;
+    }
+    for _ in 0..DAMAGED {
+        comparison.block(inputs.to_judge_any())?;
+    }
     Ok(comparison.tally)
 }
 
@@ -60,11 +72,26 @@ pub(crate) fn rooms() -> impl Iterator<Item = usize> {
 
 struct Comparison<'a> {
     tally: Tally,
-    reference: &'a dyn Both,
-    other: &'a dyn Both,
+    reference: &'a dyn Calls,
+    other: &'a dyn Calls,
 }
 
 impl Comparison<'_> {
+    /// Reads a block, and closes a buffer that holds it.
+    fn block(&mut self, block: Vec<u8>) -> Result<(), Box<Mismatch>> {
+        let (reference, other) = (self.reference.read(&block), self.other.read(&block));
+        if reference != other {
+            return Err(Box::new(Mismatch::Read { block, reference, other }));
+        }
+        self.tally.read(reference);
+        let (mut ours, mut theirs) = (block.clone(), block.clone());
+        let (reference, other) = (self.reference.write(&mut ours), self.other.write(&mut theirs));
+        if (reference, ours) != (other, theirs) {
+            return Err(Box::new(Mismatch::Write { block, reference, other }));
+        }
+        Ok(())
+    }
+
     fn list(&mut self, input: ListInput) -> Result<(), Box<Mismatch>> {
         let (mut ours, mut theirs) = (vec![0xA5; input.room], vec![0x5A; input.room]);
         let reference = self.reference.outcomes(&input.block, input.bound, &mut ours);
@@ -89,7 +116,7 @@ impl Comparison<'_> {
 }
 
 /// Compares two implementations as the arguments say, and prints what was reached or where they differ.
-pub fn run(usual: Plan, reference: &dyn Both, other: &dyn Both) -> ExitCode {
+pub fn run(usual: Plan, reference: &dyn Calls, other: &dyn Calls) -> ExitCode {
     let given: Vec<u64> = env::args().skip(1).map(|word| word.parse().expect("a number")).collect();
     let plan = Plan {
         seed: given.first().copied().unwrap_or(usual.seed),

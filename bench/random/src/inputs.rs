@@ -1,4 +1,6 @@
-//! Random inputs of the two calls: block, schedule or bound, and a buffer's length.
+//! Random inputs of the calls: block, schedule or bound, and a buffer's length.
+
+use std::ops::Range;
 
 use model::{block, schedule, Case, Step, ACTIONS, ENDING, RECORD, STEPS};
 use states::Run;
@@ -180,6 +182,28 @@ impl Inputs {
         input
     }
 
+    /// A block of a random case with a byte changed at each of some positions, and the check put right mostly.
+    pub fn to_judge(&mut self, positions: &[usize]) -> Vec<u8> {
+        let mut bytes = cases::to_replay(&mut self.rng).block();
+        for &at in positions {
+            bytes[at] = self.other_byte(bytes[at]);
+        }
+        self.closed(bytes)
+    }
+
+    /// A block with up to six bytes changed, one in each part.
+    pub fn to_judge_any(&mut self) -> Vec<u8> {
+        let parts = [0..4, 4..8, 8..92, 92..380, 92..380, 380..510];
+        let changed: Vec<usize> = parts.into_iter().filter_map(|part| self.within(part)).collect();
+        self.to_judge(&changed)
+    }
+
+    /// Half the time one of some positions.
+    fn within(&mut self, part: Range<usize>) -> Option<usize> {
+        let at = part.start + self.rng.below(part.len());
+        self.rng.once_in(2).then_some(at)
+    }
+
     /// A block with one byte changed, or of another length.
     fn spoilt_block(&mut self, sound: &[u8]) -> Vec<u8> {
         let mut bytes: [u8; block::LENGTH] = sound.try_into().expect("a block");
@@ -192,7 +216,21 @@ impl Inputs {
             5 => 92 + 72 * self.rng.below(bytes[0].into()) + self.rng.below(12),
             _ => 104 + self.rng.below(406),
         };
-        bytes[at] = if self.rng.once_in(2) { self.rng.byte() } else { bytes[at] ^ 1 };
+        bytes[at] = self.other_byte(bytes[at]);
+        self.closed(bytes)
+    }
+
+    /// Any byte, or one near.
+    fn other_byte(&mut self, byte: u8) -> u8 {
+        if self.rng.once_in(2) {
+            self.rng.byte()
+        } else {
+            byte ^ 1
+        }
+    }
+
+    /// A block with its check put right, once in eight times as it is.
+    fn closed(&mut self, mut bytes: [u8; block::LENGTH]) -> Vec<u8> {
         if !self.rng.once_in(8) {
             block::seal(&mut bytes);
         }

@@ -7,7 +7,7 @@ mod inputs;
 mod rng;
 mod tally;
 
-pub use compare::{compare, run, Both, Mismatch, Plan};
+pub use compare::{compare, run, Calls, Mismatch, Plan};
 pub use inputs::{Inputs, ListInput, ReplayInput};
 pub use rng::Rng;
 pub use tally::Tally;

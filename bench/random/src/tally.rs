@@ -1,7 +1,7 @@
 use std::collections::{BTreeMap, BTreeSet};
 use std::fmt;
 
-use model::{Listed, Refusal, Replayed};
+use model::{Coded, Listed, Reason, Replayed};
 
 use crate::compare::{rooms, LENGTHS, RECORDS};
 use crate::{ListInput, ReplayInput};
@@ -24,6 +24,8 @@ pub struct Tally {
     records: BTreeSet<usize>,
     schedules: BTreeSet<usize>,
     results: BTreeSet<usize>,
+    /// The positions of each code in blocks that were read, and how often the code was given.
+    blocks: BTreeMap<u32, (BTreeSet<u32>, u32)>,
 }
 
 impl Tally {
@@ -44,6 +46,12 @@ impl Tally {
         self.results.insert(input.room);
     }
 
+    pub(crate) fn read(&mut self, coded: Coded) {
+        let (positions, times) = self.blocks.entry(coded.code).or_default();
+        positions.insert(coded.position);
+        *times += 1;
+    }
+
     /// The replays that ended with a code.
     pub fn replays(&self, code: u32) -> u32 {
         self.replays.get(&code).copied().unwrap_or(0)
@@ -51,13 +59,20 @@ impl Tally {
 
     /// A third of the lists with two or more outcomes, half the replays of 20 steps or more, and every code.
     pub fn deep(&self) -> bool {
-        let codes = Refusal::all().map(Refusal::code);
+        let codes = Reason::all().map(Reason::code);
         let missing = |code: &u32| !self.lists.contains_key(code) && !self.replays.contains_key(code);
         3 * self.several >= self.lists.values().sum()
             && 2 * self.long >= self.replays.values().sum()
             && codes.filter(missing).count() == 0
             && (1..=7).all(|code| self.lists.contains_key(&code) && self.replays.contains_key(&code))
             && self.lengths()
+            && self.positions()
+    }
+
+    /// Each byte that can be bad for codes 3 and 4 was a position, and most of those that can be for 5 to 7.
+    fn positions(&self) -> bool {
+        let reached = |code: u32| self.blocks.get(&code).map_or(0, |(positions, _)| positions.len());
+        reached(3) == 4 && reached(4) == 4 && reached(5) >= 75 && reached(6) >= 270 && reached(7) >= 390
     }
 
     /// Every length asked for.
@@ -76,6 +91,8 @@ impl fmt::Display for Tally {
         writeln!(f, "  by code{}", codes(&self.lists))?;
         writeln!(f, "replays {replays}, 20 steps or more {}, 96 steps {}", self.long, self.whole)?;
         writeln!(f, "  by code{}", codes(&self.replays))?;
+        let blocks = self.blocks.iter().map(|(code, (positions, n))| format!(" {code}:{n}/{}", positions.len()));
+        writeln!(f, "blocks by code, and the positions it stood at{}", blocks.collect::<String>())?;
         let all = if self.lengths() { "yes" } else { "no" };
         write!(f, "schedules and buffers of every length to {LENGTHS}, records around every multiple of 96 to {RECORDS}: {all}")
     }

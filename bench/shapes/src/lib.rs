@@ -4,10 +4,12 @@
 //! another address or value stands in register 4. Location x is 0, y is 1, z is 2.
 #![forbid(unsafe_code)]
 
+mod damaged;
 mod lists;
 mod runs;
 mod stored;
 
+pub use damaged::{damaged, Damaged};
 pub use lists::{lists, locked_message, message};
 pub use runs::runs;
 pub use stored::{outcomes_prints, replay_prints, stored};
@@ -46,7 +48,7 @@ impl Shape {
     }
 }
 
-/// A schedule with the code and steps of its replay.
+/// A schedule with the code, the steps and the position of its replay.
 #[derive(Clone, Debug)]
 pub struct Run {
     pub name: &'static str,
@@ -54,6 +56,7 @@ pub struct Run {
     pub schedule: Vec<u8>,
     pub code: u32,
     pub steps: u32,
+    pub position: u32,
 }
 
 /// As many processors as programs, with the usual presets.

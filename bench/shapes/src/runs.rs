@@ -1,10 +1,10 @@
 //! Shapes of one schedule.
 
 use model::ops::*;
-use model::{block, schedule, CaseBuilder, Instr, Outcome, Step};
+use model::{schedule, CaseBuilder, Instr, Outcome, Step};
 
 use crate::lists::{figure_2, figure_8};
-use crate::{usual, Register, Run};
+use crate::{damaged, usual, Register, Run};
 
 fn issue(processor: u8) -> Step {
     Step::Issue { processor }
@@ -23,7 +23,7 @@ fn take(processor: u8, action: u8, source: u8) -> Step {
 fn run(name: &'static str, case: CaseBuilder, steps: &[Step], code: u32) -> Run {
     let case = case.build().expect("a sound case");
     let taken = steps.len() as u32 - u32::from(code != 0);
-    Run { name, block: case.block().to_vec(), schedule: schedule(steps), code, steps: taken }
+    Run { name, block: case.block().to_vec(), schedule: schedule(steps), code, steps: taken, position: 0 }
 }
 
 /// A run found by the enumerator that ends with these registers.
@@ -138,27 +138,14 @@ fn hidden() -> Vec<Run> {
     ]
 }
 
-/// Refusals before the first step, in the order they are tried.
-pub(crate) fn refused_inputs() -> Vec<Run> {
+/// Refusals before the first step: a block's whatever the schedule is, then the schedule's.
+fn refused_inputs() -> Vec<Run> {
     let sound = alone(&[goto(1)]).build().expect("a sound case").block();
-    let given = |name, block: &[u8], schedule: Vec<u8>, code| Run { name, block: block.to_vec(), schedule, code, steps: 0 };
-    let changed = |name, at: usize, byte: u8, code| {
-        let mut block = sound;
-        block[at] = byte;
-        block::seal(&mut block);
-        given(name, &block, vec![9], code)
-    };
-    let mut unsealed = sound;
-    unsealed[510] ^= 1;
-    vec![
-        given("block-short", &sound[..511], vec![], 1),
-        given("block-check", &unsealed, vec![9], 2),
-        changed("block-sizes", 3, 1, 3),
-        changed("block-counts", 5, 1, 4),
-        changed("block-preset", 90, 1, 5),
-        changed("block-instruction", 96, 2, 6),
-        changed("block-unused", 509, 1, 7),
-        given("schedule-piece", &sound, vec![0, 0, 0, 0, 1], 8),
-        given("schedule-long", &sound, vec![0; 388], 8),
-    ]
+    let given = |name, schedule| Run { name, block: sound.to_vec(), schedule, code: 8, steps: 0, position: 0 };
+    let refused = damaged().into_iter().map(|block| {
+        // Bytes that follow a short block would be taken as its own.
+        let schedule = if block.code == 1 { vec![] } else { vec![9] };
+        Run { name: block.name, block: block.block, schedule, code: block.code, steps: 0, position: block.position }
+    });
+    refused.chain([given("schedule-piece", vec![0, 0, 0, 0, 1]), given("schedule-long", vec![0; 388])]).collect()
 }

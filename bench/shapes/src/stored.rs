@@ -1,12 +1,11 @@
 //! Inputs of the two programs, stored as files with what the programs print for them.
 
 use model::ops::*;
-use model::{block, Lister, Outcome, Replayer, ENDING, RECORD};
+use model::{block, Lister, Outcome, Reason, Replayed, Replayer, ENDING, RECORD};
 use states::States;
 
 use crate::lists::message;
-use crate::runs::refused_inputs;
-use crate::{lists, runs, usual};
+use crate::{damaged, lists, runs, usual};
 
 /// The records that the program `outcomes` has room for, and the bound that means the block's usual one.
 const ROOM: usize = 682;
@@ -15,7 +14,7 @@ const USUAL: u8 = 255;
 /// Every stored file: its path and its bytes.
 pub fn stored() -> Vec<(String, Vec<u8>)> {
     let replays = runs().into_iter().map(|run| {
-        let prints = format!("code {} after {} steps\n", run.code, run.steps);
+        let prints = replay_line(Replayed { code: run.code, steps: run.steps, position: run.position });
         (format!("replay/{}", run.name), [run.block, run.schedule].concat(), prints)
     });
     let outcomes = list_inputs().into_iter().map(|(name, input)| {
@@ -32,8 +31,7 @@ fn list_inputs() -> Vec<(&'static str, Vec<u8>)> {
     let readers = usual(1, &[&[write(0, 1), write(0, 4)], &[2, 3, 4, 5, 6, 7].map(|d| read(d, 0))]);
     let readers = readers.preset(0, 4, 2).build().expect("a sound case").block();
     let mut inputs: Vec<_> = lists().iter().map(|shape| (shape.name, with(&shape.case.block(), shape.bound))).collect();
-    let refused = refused_inputs().into_iter().filter(|run| run.code < 8);
-    inputs.extend(refused.map(|run| (run.name, with(&run.block, USUAL))));
+    inputs.extend(damaged().iter().map(|damaged| (damaged.name, with(&damaged.block, USUAL))));
     inputs.extend([
         ("H-usual", with(&h, USUAL)),
         ("bound-97", with(&h, 97)),
@@ -50,19 +48,33 @@ fn list_inputs() -> Vec<(&'static str, Vec<u8>)> {
 pub fn replay_prints(input: &[u8]) -> String {
     let (block, schedule) = input.split_at(input.len().min(block::LENGTH));
     let replayed = States.replay(block, schedule, &mut [0; ENDING]);
-    format!("code {} after {} steps\n", replayed.code, replayed.steps)
+    replay_line(replayed)
+}
+
+fn replay_line(replayed: Replayed) -> String {
+    format!("code {} after {} steps{}\n", replayed.code, replayed.steps, at(replayed.code, replayed.position))
+}
+
+/// The end of a block code's line.
+fn at(code: u32, position: u32) -> String {
+    let of_block = Reason::from_code(code).is_some_and(Reason::is_of_block);
+    if of_block {
+        format!(" at {position}")
+    } else {
+        String::new()
+    }
 }
 
 /// What the program `outcomes` prints for its input.
 pub fn outcomes_prints(input: &[u8]) -> String {
     let Some((&bound, block)) = input.split_last().filter(|(_, block)| block.len() == block::LENGTH) else {
-        return "refused 1\n".to_string();
+        return "refused 1 at 0\n".to_string();
     };
     let bound = if bound == USUAL { block[2] } else { bound };
     let mut records = vec![0; ROOM * RECORD];
     let listed = States.outcomes(block, bound.into(), &mut records);
     if listed.code != 0 {
-        return format!("refused {}\n", listed.code);
+        return format!("refused {}{}\n", listed.code, at(listed.code, listed.position));
     }
     let header = format!("outcomes {} cut {}\n", listed.count, if listed.cut { "yes" } else { "no" });
     let line = |record: &[u8]| Outcome::read(record.try_into().expect("96 bytes")).line(block[0].into()) + "\n";

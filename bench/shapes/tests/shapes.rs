@@ -3,9 +3,9 @@
 use std::fs;
 use std::path::Path;
 
-use model::{Lister, Outcome, Replayed, Replayer, Step, RECORD};
+use model::{Codec, Coded, Lister, Outcome, Replayed, Replayer, Step, RECORD};
 use plain::Plain;
-use shapes::{lists, runs, Shape};
+use shapes::{damaged, lists, runs, Shape};
 use states::States;
 
 /// Schedules beyond which the search without a memory takes too long for a test.
@@ -42,7 +42,7 @@ fn plain_finds_the_same() {
 #[test]
 fn runs_end_as_expected() {
     for run in runs() {
-        let expected = Replayed { code: run.code, steps: run.steps };
+        let expected = Replayed { code: run.code, steps: run.steps, position: run.position };
         let (mut result, mut other) = ([7; 104], [9; 104]);
         assert_eq!(States.replay(&run.block, &run.schedule, &mut result), expected, "{}", run.name);
         assert_eq!(Plain.replay(&run.block, &run.schedule, &mut other), expected, "{}", run.name);
@@ -123,7 +123,7 @@ fn what_a_refusal_leaves() {
     assert_eq!(result[96..], [255, 0, 0, 0, 1, 0, 0, 0]);
     for length in [0, 103, 105] {
         let mut result = vec![7; length];
-        assert_eq!(States.replay(&run.block, &run.schedule, &mut result), Replayed { code: 9, steps: 0 });
+        assert_eq!(States.replay(&run.block, &run.schedule, &mut result), Replayed { code: 9, steps: 0, position: 0 });
         assert_eq!(result, vec![0; length]);
     }
 }
@@ -140,10 +140,23 @@ fn stored_inputs_are_up_to_date() {
     assert_eq!(held("replay") + held("outcomes"), made.len());
 }
 
+/// By both judges, and where a list is asked for.
+#[test]
+fn damaged_blocks_name_their_byte() {
+    for damaged in damaged() {
+        let expected = Coded { code: damaged.code, position: damaged.position };
+        assert_eq!(States.read(&damaged.block), expected, "{}", damaged.name);
+        assert_eq!(Plain.read(&damaged.block), expected, "{}", damaged.name);
+        let listed = States.outcomes(&damaged.block, 97, &mut []);
+        assert_eq!((listed.code, listed.position), (damaged.code, damaged.position), "{}", damaged.name);
+    }
+}
+
 #[test]
 fn replay_prints_what_is_expected() {
     for run in runs() {
-        let expected = format!("code {} after {} steps\n", run.code, run.steps);
+        let at = if (1..=7).contains(&run.code) { format!(" at {}", run.position) } else { String::new() };
+        let expected = format!("code {} after {} steps{at}\n", run.code, run.steps);
         assert_eq!(shapes::replay_prints(&[run.block, run.schedule].concat()), expected, "{}", run.name);
     }
 }

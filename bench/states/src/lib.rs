@@ -12,10 +12,20 @@ mod state;
 pub use replay::Run;
 pub use search::{find, list, list_within, Listing};
 
-use model::{block, Listed, Lister, Refusal, Replayed, Replayer, ENDING, RECORD, STEPS};
+use model::{block, Case, Codec, Coded, Listed, Lister, Reason, Refusal, Replayed, Replayer, ENDING, RECORD, STEPS};
 
 /// The enumerator behind the bytes that the library takes.
 pub struct States;
+
+impl Codec for States {
+    fn read(&self, block: &[u8]) -> Coded {
+        Coded::of(block::read(block).map(|_| ()))
+    }
+
+    fn write(&self, block: &mut [u8]) -> Coded {
+        Coded::of(block::close(block))
+    }
+}
 
 impl Lister for States {
     fn outcomes(&self, block: &[u8], bound: u32, records: &mut [u8]) -> Listed {
@@ -25,19 +35,19 @@ impl Lister for States {
                 for (record, outcome) in records.chunks_exact_mut(RECORD).zip(&listing.outcomes) {
                     record.copy_from_slice(&outcome.bytes());
                 }
-                Listed { code: 0, count: listing.outcomes.len() as u32, cut: listing.cut }
+                Listed { code: 0, count: listing.outcomes.len() as u32, cut: listing.cut, position: 0 }
             }
-            Err(refusal) => Listed { code: refusal.code(), count: 0, cut: false },
+            Err(refusal) => Listed::refused(refusal),
         }
     }
 }
 
 fn outcomes(block: &[u8], bound: u32, room: usize) -> Result<Listing, Refusal> {
     let case = block::read(block)?;
-    let bound = u8::try_from(bound).ok().filter(|&bound| usize::from(bound) <= STEPS).ok_or(Refusal::Bound)?;
+    let bound = u8::try_from(bound).ok().filter(|&bound| usize::from(bound) <= STEPS).ok_or(Reason::Bound)?;
     let listing = list(&case, bound);
     if listing.outcomes.len() > room {
-        return Err(Refusal::Room);
+        return Err(Reason::Room.into());
     }
     Ok(listing)
 }
@@ -47,22 +57,22 @@ impl Replayer for States {
         result.fill(0);
         let case = match replayable(block, schedule, result.len()) {
             Ok(case) => case,
-            Err(refusal) => return Replayed { code: refusal.code(), steps: 0 },
+            Err(refusal) => return Replayed::refused(refusal),
         };
         let mut run = Run::new(&case);
         let stopped = schedule.chunks_exact(4).find_map(|step| run.take([step[0], step[1], step[2], step[3]]).err());
         result.copy_from_slice(&run.ending().bytes());
-        Replayed { code: stopped.map_or(0, Refusal::code), steps: run.steps() }
+        Replayed { code: stopped.map_or(0, Reason::code), steps: run.steps(), position: 0 }
     }
 }
 
-fn replayable(block: &[u8], schedule: &[u8], room: usize) -> Result<model::Case, Refusal> {
+fn replayable(block: &[u8], schedule: &[u8], room: usize) -> Result<Case, Refusal> {
     let case = block::read(block)?;
     if !schedule.len().is_multiple_of(4) || schedule.len() > 4 * STEPS {
-        return Err(Refusal::ScheduleLength);
+        return Err(Reason::ScheduleLength.into());
     }
     if room != ENDING {
-        return Err(Refusal::ResultLength);
+        return Err(Reason::ResultLength.into());
     }
     Ok(case)
 }

@@ -1,6 +1,6 @@
 //! One schedule, step by step, with actions and items by document 01's numbers.
 
-use model::{Case, Ending, Refusal, Step, LOCATIONS};
+use model::{Case, Ending, Reason, Step, LOCATIONS};
 
 use crate::state::{Id, Item, Move, State};
 
@@ -38,17 +38,17 @@ impl<'a> Run<'a> {
     }
 
     /// Takes a step, or says why not and stays.
-    pub fn take(&mut self, step: [u8; 4]) -> Result<(), Refusal> {
+    pub fn take(&mut self, step: [u8; 4]) -> Result<(), Reason> {
         let [kind, p, action, source] = step;
         if kind > 1 || p >= self.state.processors() || kind == 0 && (action, source) != (0, 0) {
-            return Err(Refusal::BadStep);
+            return Err(Reason::BadStep);
         }
         if kind == 0 {
             let next = self.state.issue(self.case, p)?;
             self.issued.push((p, self.state.actions(p).len() as u8));
             self.state = next;
         } else {
-            let id = *self.issued.get(usize::from(action)).filter(|id| id.0 == p).ok_or(Refusal::NoSuchAction)?;
+            let id = *self.issued.get(usize::from(action)).filter(|id| id.0 == p).ok_or(Reason::NoSuchAction)?;
             self.state = self.state.commit(self.case, id, self.item(source))?;
         }
         self.steps += 1;

@@ -1,6 +1,6 @@
 //! The state of a run, and what issue and commit do to it.
 
-use model::{Case, Ending, Instr, Outcome, Refusal, ACTIONS, LOCATIONS, REGISTERS};
+use model::{Case, Ending, Instr, Outcome, Reason, ACTIONS, LOCATIONS, REGISTERS};
 
 use crate::order::Order;
 
@@ -111,13 +111,13 @@ impl State {
     }
 
     /// The state after processor p's next issue.
-    pub fn issue(&self, case: &Case, p: u8) -> Result<State, Refusal> {
+    pub fn issue(&self, case: &Case, p: u8) -> Result<State, Reason> {
         let local = &self.locals[usize::from(p)];
-        let place = local.place.ok_or(Refusal::PlaceUndefined)?;
+        let place = local.place.ok_or(Reason::PlaceUndefined)?;
         let program = &case.processors()[usize::from(p)].program;
-        let instr = *program.get(usize::from(place)).ok_or(Refusal::AtEnd)?;
+        let instr = *program.get(usize::from(place)).ok_or(Reason::AtEnd)?;
         if self.issued() == ACTIONS {
-            return Err(Refusal::TooManyActions);
+            return Err(Reason::TooManyActions);
         }
         let location = instr.address().map(|a| self.location(case, p, a)).transpose()?;
         let mut inputs = [None; 2];
@@ -139,39 +139,39 @@ impl State {
     }
 
     /// The location that a read or write through register a would have if issued now.
-    fn location(&self, case: &Case, p: u8, a: u8) -> Result<u8, Refusal> {
+    fn location(&self, case: &Case, p: u8, a: u8) -> Result<u8, Reason> {
         let name = self.locals[usize::from(p)].names[usize::from(a)];
-        let value = self.value(case, p, a, name).ok_or(Refusal::AddressUndefined)?;
+        let value = self.value(case, p, a, name).ok_or(Reason::AddressUndefined)?;
         if value >= case.locations().into() {
-            return Err(Refusal::AddressRange);
+            return Err(Reason::AddressRange);
         }
         Ok(value as u8)
     }
 
     /// The state after a commit; `None` as a source is a number that names no item.
-    pub fn commit(&self, case: &Case, id: Id, source: Option<Item>) -> Result<State, Refusal> {
+    pub fn commit(&self, case: &Case, id: Id, source: Option<Item>) -> Result<State, Reason> {
         let queued = self.actions(id.0).get(usize::from(id.1)).filter(|action| action.result.is_none());
-        let action = queued.ok_or(Refusal::NoSuchAction)?;
+        let action = queued.ok_or(Reason::NoSuchAction)?;
         if !matches!(action.instr, Instr::Read { .. }) {
             if source != Some(Item::Initial(0)) {
-                return Err(Refusal::SourceGiven);
+                return Err(Reason::SourceGiven);
             }
             return self.committed(case, id);
         }
         let visible = self.readable(case, id)?;
-        let (_, value) = visible.into_iter().find(|&(item, _)| Some(item) == source).ok_or(Refusal::NotVisible)?;
+        let (_, value) = visible.into_iter().find(|&(item, _)| Some(item) == source).ok_or(Reason::NotVisible)?;
         Ok(self.with_result(id, value))
     }
 
     /// The items that a queued read may take, with their values.
-    fn readable(&self, case: &Case, id: Id) -> Result<Vec<(Item, u16)>, Refusal> {
+    fn readable(&self, case: &Case, id: Id) -> Result<Vec<(Item, u16)>, Reason> {
         self.inputs_ready(case, id)?;
         let location = self.action(id).location.expect("a read has its location from its issue");
         Ok(Order::new(self, location).visible(self, case, Item::Of(id)))
     }
 
     /// The state after the commit of a queued action that is not a read.
-    fn committed(&self, case: &Case, id: Id) -> Result<State, Refusal> {
+    fn committed(&self, case: &Case, id: Id) -> Result<State, Reason> {
         let values = self.inputs_ready(case, id)?;
         let action = self.action(id);
         match action.instr {
@@ -193,10 +193,10 @@ impl State {
         }
     }
 
-    fn acquired(&self, case: &Case, id: Id, location: u16) -> Result<State, Refusal> {
+    fn acquired(&self, case: &Case, id: Id, location: u16) -> Result<State, Reason> {
         let holder = self.holder(case, location)?;
         if holder.is_some_and(|p| p != id.0) {
-            return Err(Refusal::LockState);
+            return Err(Reason::LockState);
         }
         let mut next = self.with_result(id, location);
         next.action_mut(id).after = self.releases(location);
@@ -204,18 +204,18 @@ impl State {
         Ok(next)
     }
 
-    fn released(&self, case: &Case, id: Id, location: u16) -> Result<State, Refusal> {
+    fn released(&self, case: &Case, id: Id, location: u16) -> Result<State, Reason> {
         if self.holder(case, location)? != Some(id.0) {
-            return Err(Refusal::LockState);
+            return Err(Reason::LockState);
         }
         let mut next = self.with_result(id, location);
         next.holders[usize::from(location)] = None;
         Ok(next)
     }
 
-    fn holder(&self, case: &Case, location: u16) -> Result<Option<u8>, Refusal> {
+    fn holder(&self, case: &Case, location: u16) -> Result<Option<u8>, Reason> {
         if location >= case.locations().into() {
-            return Err(Refusal::LockRange);
+            return Err(Reason::LockRange);
         }
         Ok(self.holders[usize::from(location)])
     }
@@ -235,14 +235,14 @@ impl State {
     }
 
     /// The values of the registers that an action reads, if it is not held back.
-    fn inputs_ready(&self, case: &Case, id: Id) -> Result<Vec<u16>, Refusal> {
+    fn inputs_ready(&self, case: &Case, id: Id) -> Result<Vec<u16>, Reason> {
         let action = self.action(id);
         let mut earlier = self.actions(id.0)[..usize::from(id.1)].iter().filter(|earlier| earlier.result.is_none());
         if earlier.any(|earlier| holds_back(earlier, action)) {
-            return Err(Refusal::HeldBack);
+            return Err(Reason::HeldBack);
         }
         let inputs = action.instr.inputs().zip(action.inputs);
-        inputs.map(|(k, name)| self.value(case, id.0, k, name).ok_or(Refusal::RegisterUndefined)).collect()
+        inputs.map(|(k, name)| self.value(case, id.0, k, name).ok_or(Reason::RegisterUndefined)).collect()
     }
 
     /// Every accepted step, with the state after it. A read has one for each item it may take.

@@ -2,9 +2,9 @@
 #![allow(unsafe_code)]
 
 extern "C" {
-    fn womm_read(block: *const u8, block_length: usize) -> u32;
+    fn womm_read(block: *const u8, block_length: usize, position: *mut usize) -> u32;
 
-    fn womm_write(block: *mut u8, block_length: usize) -> u32;
+    fn womm_write(block: *mut u8, block_length: usize, position: *mut usize) -> u32;
 
     fn womm_replay(
         block: *const u8,
@@ -14,6 +14,7 @@ extern "C" {
         result: *mut u8,
         result_length: usize,
         steps: *mut usize,
+        position: *mut usize,
     ) -> u32;
 
     fn womm_outcomes(
@@ -24,32 +25,48 @@ extern "C" {
         records_length: usize,
         count: *mut usize,
         cut: *mut usize,
+        position: *mut usize,
     ) -> u32;
 }
 
+/// The numbers that a replay hands back.
+pub struct ReplayNumbers<'a> {
+    pub steps: &'a mut usize,
+    pub position: &'a mut usize,
+}
+
+/// The numbers that a list hands back.
+pub struct ListNumbers<'a> {
+    pub count: &'a mut usize,
+    pub cut: &'a mut usize,
+    pub position: &'a mut usize,
+}
+
 /// Reads a block; gives the code.
-pub fn read(block: &[u8]) -> u32 {
-    // SAFETY: the pointer comes from a live slice and goes with its length.
-    unsafe { womm_read(block.as_ptr(), block.len()) }
+pub fn read(block: &[u8], position: &mut usize) -> u32 {
+    // SAFETY: each pointer comes from a live slice or number and goes with its own length; `position` is lent to
+    // this call alone.
+    unsafe { womm_read(block.as_ptr(), block.len(), position) }
 }
 
 /// Makes a block of a buffer that holds one but for its check; gives the code.
-pub fn write(block: &mut [u8]) -> u32 {
-    // SAFETY: as above; `block` is lent to this call alone.
-    unsafe { womm_write(block.as_mut_ptr(), block.len()) }
+pub fn write(block: &mut [u8], position: &mut usize) -> u32 {
+    // SAFETY: as above; `block` and `position` are lent to this call alone.
+    unsafe { womm_write(block.as_mut_ptr(), block.len(), position) }
 }
 
 /// Replays a schedule; gives the code.
-pub fn replay(block: &[u8], schedule: &[u8], result: &mut [u8], steps: &mut usize) -> u32 {
+pub fn replay(block: &[u8], schedule: &[u8], result: &mut [u8], given: ReplayNumbers) -> u32 {
+    let ReplayNumbers { steps, position } = given;
     let (bytes, length) = (result.as_mut_ptr(), result.len());
-    // SAFETY: each pointer comes from a live slice or number and goes with its own length; `result` and
-    // `steps` are lent to this call alone.
-    unsafe { womm_replay(block.as_ptr(), block.len(), schedule.as_ptr(), schedule.len(), bytes, length, steps) }
+    // SAFETY: as above; `result` and the numbers are lent to this call alone.
+    unsafe { womm_replay(block.as_ptr(), block.len(), schedule.as_ptr(), schedule.len(), bytes, length, steps, position) }
 }
 
 /// Lists outcomes; gives the code.
-pub fn outcomes(block: &[u8], bound: u32, records: &mut [u8], count: &mut usize, cut: &mut usize) -> u32 {
+pub fn outcomes(block: &[u8], bound: u32, records: &mut [u8], given: ListNumbers) -> u32 {
+    let ListNumbers { count, cut, position } = given;
     let (bytes, length) = (records.as_mut_ptr(), records.len());
-    // SAFETY: as above; `records`, `count` and `cut` are lent to this call alone.
-    unsafe { womm_outcomes(block.as_ptr(), block.len(), bound, bytes, length, count, cut) }
+    // SAFETY: as above; `records` and the numbers are lent to this call alone.
+    unsafe { womm_outcomes(block.as_ptr(), block.len(), bound, bytes, length, count, cut, position) }
 }

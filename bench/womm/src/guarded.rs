@@ -1,8 +1,9 @@
 use std::hint::black_box;
 
-use model::{Listed, Lister, Replayed, Replayer};
+use model::{Codec, Coded, Listed, Lister, Replayed, Replayer};
 
-use crate::{ffi, short};
+use crate::ffi::{self, ListNumbers, ReplayNumbers};
+use crate::{mark, short};
 
 /// The library with everything it is lent standing between canaries. After each call the canaries stand,
 /// the inputs are what they were, and every number has been given.
@@ -46,36 +47,57 @@ impl FencedNumber {
         FencedNumber([NUMBER; 3])
     }
 
+    fn lent(&mut self) -> &mut usize {
+        &mut self.0[1]
+    }
+
     /// The number given, once those beside it have been looked at.
-    fn opened(&self, what: &str) -> u32 {
+    fn opened(&self, what: &str) -> usize {
         let [before, number, after] = *black_box(&self.0);
         assert_eq!((before, after), (NUMBER, NUMBER), "a number beside the {what} was written");
         assert_ne!(number, NUMBER, "the {what} was not given");
-        short(number)
+        number
+    }
+}
+
+impl Codec for Guarded {
+    fn read(&self, block: &[u8]) -> Coded {
+        let (held, mut position) = (Fenced::new(block), FencedNumber::new());
+        let code = ffi::read(held.inner(), position.lent());
+        assert_eq!(black_box(&held).opened("block"), block, "the block was written");
+        Coded { code, position: short(position.opened("position")) }
+    }
+
+    fn write(&self, block: &mut [u8]) -> Coded {
+        let (mut lent, mut position) = (Fenced::new(block), FencedNumber::new());
+        let code = ffi::write(lent.inner_mut(), position.lent());
+        block.copy_from_slice(black_box(&lent).opened("block"));
+        Coded { code, position: short(position.opened("position")) }
     }
 }
 
 impl Lister for Guarded {
     fn outcomes(&self, block: &[u8], bound: u32, records: &mut [u8]) -> Listed {
         let (held, mut lent) = (Fenced::new(block), Fenced::new(records));
-        let (mut count, mut cut) = (FencedNumber::new(), FencedNumber::new());
-        let code = ffi::outcomes(held.inner(), bound, lent.inner_mut(), &mut count.0[1], &mut cut.0[1]);
+        let [mut count, mut cut, mut position] = std::array::from_fn(|_| FencedNumber::new());
+        let given = ListNumbers { count: count.lent(), cut: cut.lent(), position: position.lent() };
+        let code = ffi::outcomes(held.inner(), bound, lent.inner_mut(), given);
         assert_eq!(black_box(&held).opened("block"), block, "the block was written");
         records.copy_from_slice(black_box(&lent).opened("records"));
-        let (count, cut) = (count.opened("count"), cut.opened("cut mark"));
-        assert!(cut <= 1, "cut {cut} is neither yes nor no");
-        Listed { code, count, cut: cut == 1 }
+        let (count, position) = (short(count.opened("count")), short(position.opened("position")));
+        Listed { code, count, cut: mark(cut.opened("cut mark")), position }
     }
 }
 
 impl Replayer for Guarded {
     fn replay(&self, block: &[u8], schedule: &[u8], result: &mut [u8]) -> Replayed {
         let (held, steps_held, mut lent) = (Fenced::new(block), Fenced::new(schedule), Fenced::new(result));
-        let mut steps = FencedNumber::new();
-        let code = ffi::replay(held.inner(), steps_held.inner(), lent.inner_mut(), &mut steps.0[1]);
+        let [mut steps, mut position] = std::array::from_fn(|_| FencedNumber::new());
+        let given = ReplayNumbers { steps: steps.lent(), position: position.lent() };
+        let code = ffi::replay(held.inner(), steps_held.inner(), lent.inner_mut(), given);
         assert_eq!(black_box(&held).opened("block"), block, "the block was written");
         assert_eq!(black_box(&steps_held).opened("schedule"), schedule, "the schedule was written");
         result.copy_from_slice(black_box(&lent).opened("result"));
-        Replayed { code, steps: steps.opened("steps") }
+        Replayed { code, steps: short(steps.opened("steps")), position: short(position.opened("position")) }
     }
 }

@@ -6,37 +6,57 @@ mod ffi;
 mod guarded;
 
 pub use guarded::Guarded;
-pub use model::{ops, Case, CaseBuilder, Ending, Instr, Listed, Lister, Outcome, Refusal, Replayed, Replayer, Step};
+pub use model::{ops, Case, CaseBuilder, Codec, Coded, Ending, Instr, Listed, Lister, Outcome};
+pub use model::{Reason, Refusal, Replayed, Replayer, Step};
 
+use ffi::{ListNumbers, ReplayNumbers};
 use model::{schedule, ENDING, RECORD};
 
 /// The library over plain bytes.
 pub struct Library;
 
+impl Codec for Library {
+    fn read(&self, block: &[u8]) -> Coded {
+        let mut position = 0;
+        let code = ffi::read(block, &mut position);
+        Coded { code, position: short(position) }
+    }
+
+    fn write(&self, block: &mut [u8]) -> Coded {
+        let mut position = 0;
+        let code = ffi::write(block, &mut position);
+        Coded { code, position: short(position) }
+    }
+}
+
 impl Lister for Library {
     fn outcomes(&self, block: &[u8], bound: u32, records: &mut [u8]) -> Listed {
-        let (mut count, mut cut) = (0, 0);
-        let code = ffi::outcomes(block, bound, records, &mut count, &mut cut);
-        Listed { code, count: short(count), cut: mark(cut) }
+        let [mut count, mut cut, mut position] = [0; 3];
+        let given = ListNumbers { count: &mut count, cut: &mut cut, position: &mut position };
+        let code = ffi::outcomes(block, bound, records, given);
+        Listed { code, count: short(count), cut: mark(cut), position: short(position) }
     }
 }
 
 impl Replayer for Library {
     fn replay(&self, block: &[u8], schedule: &[u8], result: &mut [u8]) -> Replayed {
-        let mut steps = 0;
-        let code = ffi::replay(block, schedule, result, &mut steps);
-        Replayed { code, steps: short(steps) }
+        let [mut steps, mut position] = [0; 2];
+        let given = ReplayNumbers { steps: &mut steps, position: &mut position };
+        let code = ffi::replay(block, schedule, result, given);
+        Replayed { code, steps: short(steps), position: short(position) }
     }
 }
 
 /// Whether a block holds a case.
 pub fn read(block: &[u8]) -> Result<(), Refusal> {
-    refusal(ffi::read(block)).map_or(Ok(()), Err)
+    let coded = Library.read(block);
+    accepted(coded.code, coded.position)
 }
 
 /// Puts the check behind bytes 0 to 509 of a block. Refused, the block is all zeros.
 pub fn write(block: &mut [u8]) -> Result<(), Refusal> {
-    refusal(ffi::write(block)).map_or(Ok(()), Err)
+    let coded = Library.write(block);
+    accepted(coded.code, coded.position)
 }
 
 /// All outcomes within a bound, in byte order.
@@ -50,7 +70,7 @@ pub struct Listing {
 #[derive(Clone, Debug, PartialEq, Eq)]
 pub struct Replay {
     pub steps: u32,
-    pub stopped: Option<Refusal>,
+    pub stopped: Option<Reason>,
     pub ending: Ending,
 }
 
@@ -59,39 +79,41 @@ pub struct Replay {
 pub fn outcomes(case: &Case, bound: u32, room: usize) -> Result<Listing, Refusal> {
     let mut records = vec![0; room * RECORD];
     let listed = Library.outcomes(&case.block(), bound, &mut records);
-    match refusal(listed.code) {
-        Some(refusal) => Err(refusal),
-        None => {
-            let records = records.chunks_exact(RECORD).take(listed.count as usize);
-            let read = |record: &[u8]| Outcome::read(record.try_into().expect("96 bytes"));
-            Ok(Listing { outcomes: records.map(read).collect(), cut: listed.cut })
-        }
-    }
+    accepted(listed.code, listed.position)?;
+    let records = records.chunks_exact(RECORD).take(listed.count as usize);
+    let read = |record: &[u8]| Outcome::read(record.try_into().expect("96 bytes"));
+    Ok(Listing { outcomes: records.map(read).collect(), cut: listed.cut })
 }
 
 /// Replays a schedule. A step that is refused stops it; codes 1 to 9 refuse it whole.
 pub fn replay(case: &Case, steps: &[Step]) -> Result<Replay, Refusal> {
     let mut result = [0; ENDING];
     let replayed = Library.replay(&case.block(), &schedule(steps), &mut result);
-    match refusal(replayed.code) {
-        Some(refusal) if refusal < Refusal::BadStep => Err(refusal),
-        stopped => Ok(Replay { steps: replayed.steps, stopped, ending: Ending::read(&result) }),
+    let stopped = reason(replayed.code);
+    if stopped.is_some_and(|reason| reason < Reason::BadStep) {
+        accepted(replayed.code, replayed.position)?;
     }
+    Ok(Replay { steps: replayed.steps, stopped, ending: Ending::read(&result) })
 }
 
-/// A mark that the library gives: 1 for yes, 0 for no.
-fn mark(number: usize) -> bool {
-    assert!(number < 2, "the library gave {number} for a mark");
-    number == 1
+/// Nothing with code 0, else the refusal at a position.
+fn accepted(code: u32, position: u32) -> Result<(), Refusal> {
+    reason(code).map_or(Ok(()), |reason| Err(Refusal { reason, position }))
 }
 
-/// A number that the library gives: records or steps.
+/// A number that the library gives: records, steps or a position.
 fn short(count: usize) -> u32 {
     count.try_into().expect("no answer of document 01 is so large")
 }
 
-fn refusal(code: u32) -> Option<Refusal> {
-    let refusal = Refusal::from_code(code);
-    assert!(code == 0 || refusal.is_some(), "the library gave {code}, which is no code of document 01");
-    refusal
+/// A mark that the library gives: 1 is yes, 0 is no, and there is no other.
+fn mark(number: usize) -> bool {
+    assert!(number <= 1, "the library gave {number}, which is neither yes nor no");
+    number == 1
+}
+
+fn reason(code: u32) -> Option<Reason> {
+    let reason = Reason::from_code(code);
+    assert!(code == 0 || reason.is_some(), "the library gave {code}, which is no code of document 01");
+    reason
 }

@@ -1,7 +1,7 @@
 //! The library against the shapes: what is expected of them, and what the enumerator of states says.
 
-use model::{Listed, Lister, Replayed, Replayer, RECORD};
-use shapes::{lists, runs, Shape};
+use model::{Codec, Coded, Listed, Lister, Replayed, Replayer, RECORD};
+use shapes::{damaged, lists, runs, Shape};
 use states::States;
 use womm::{Guarded, Outcome};
 
@@ -22,11 +22,11 @@ fn listed(shape: &Shape, bound: u8, room: usize) -> (Listed, Vec<u8>) {
 fn expected(listing: &states::Listing, room: usize) -> (Listed, Vec<u8>) {
     let count = listing.outcomes.len();
     if count > room / RECORD {
-        return (Listed { code: 11, count: 0, cut: false }, vec![0; room]);
+        return (Listed { code: 11, count: 0, cut: false, position: 0 }, vec![0; room]);
     }
     let mut records: Vec<u8> = listing.outcomes.iter().flat_map(|outcome| outcome.bytes()).collect();
     records.resize(room, 0);
-    (Listed { code: 0, count: count as u32, cut: listing.cut }, records)
+    (Listed { code: 0, count: count as u32, cut: listing.cut, position: 0 }, records)
 }
 
 #[test]
@@ -85,11 +85,11 @@ fn figure_2_in_many_rooms() {
 fn h_as_document_01_says() {
     let h = shape("H-8");
     let answer = |bound, room| listed(&h, bound, room).0;
-    assert_eq!(answer(7, 384), Listed { code: 0, count: 0, cut: true });
-    assert_eq!(answer(8, 384), Listed { code: 0, count: 4, cut: false });
-    assert_eq!(answer(9, 384), Listed { code: 0, count: 4, cut: false });
-    assert_eq!(listed(&h, 8, 383), (Listed { code: 11, count: 0, cut: false }, vec![0; 383]));
-    assert_eq!(listed(&h, 97, 384), (Listed { code: 10, count: 0, cut: false }, vec![0; 384]));
+    assert_eq!(answer(7, 384), Listed { code: 0, count: 0, cut: true, position: 0 });
+    assert_eq!(answer(8, 384), Listed { code: 0, count: 4, cut: false, position: 0 });
+    assert_eq!(answer(9, 384), Listed { code: 0, count: 4, cut: false, position: 0 });
+    assert_eq!(listed(&h, 8, 383), (Listed { code: 11, count: 0, cut: false, position: 0 }, vec![0; 383]));
+    assert_eq!(listed(&h, 97, 384), (Listed { code: 10, count: 0, cut: false, position: 0 }, vec![0; 384]));
     let (_, records) = listed(&h, 8, 384);
     let lines: Vec<String> =
         records.chunks_exact(RECORD).map(|record| Outcome::read(record.try_into().unwrap()).line(2)).collect();
@@ -107,7 +107,7 @@ fn h_as_document_01_says() {
 fn a_loop_is_cut_at_every_bound() {
     let endless = shape("goto-0-1");
     for bound in 0..=96 {
-        assert_eq!(listed(&endless, bound, 96), (Listed { code: 0, count: 0, cut: true }, vec![0; 96]), "{bound}");
+        assert_eq!(listed(&endless, bound, 96), (Listed { code: 0, count: 0, cut: true, position: 0 }, vec![0; 96]), "{bound}");
     }
 }
 
@@ -116,9 +116,24 @@ fn runs_end_as_expected() {
     for run in runs() {
         let (mut result, mut expected) = ([7; 104], [9; 104]);
         let replayed = Guarded.replay(&run.block, &run.schedule, &mut result);
-        assert_eq!(replayed, Replayed { code: run.code, steps: run.steps }, "{}", run.name);
+        assert_eq!(replayed, Replayed { code: run.code, steps: run.steps, position: run.position }, "{}", run.name);
         States.replay(&run.block, &run.schedule, &mut expected);
         assert_eq!(result, expected, "{}", run.name);
+    }
+}
+
+/// Each kind of bad byte of each code, where a block is read, written, listed and (above) replayed.
+#[test]
+fn damaged_blocks_name_their_byte() {
+    for damaged in damaged() {
+        let (code, position) = (damaged.code, damaged.position);
+        assert_eq!(Guarded.read(&damaged.block), Coded { code, position }, "{}", damaged.name);
+        let mut records = [7; 200];
+        let expected = Listed { code, count: 0, cut: false, position };
+        assert_eq!(Guarded.outcomes(&damaged.block, 97, &mut records), expected, "{}", damaged.name);
+        assert_eq!(records, [0; 200], "{}", damaged.name);
+        let (mut written, mut closed) = (damaged.block.clone(), damaged.block.clone());
+        assert_eq!((Guarded.write(&mut written), written), (States.write(&mut closed), closed), "{}", damaged.name);
     }
 }
 

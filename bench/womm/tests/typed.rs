@@ -1,16 +1,16 @@
 //! The typed calls.
 
-use womm::{Refusal, Step};
+use womm::{Reason, Refusal, Step};
 
 #[test]
 fn a_typed_replay() {
     let case = shapes::usual(1, &[&[womm::ops::read(2, 0)]]).build().unwrap();
     let steps = [Step::Issue { processor: 0 }, Step::Commit { processor: 0, action: 0, source: 0 }];
     let replay = womm::replay(&case, &[steps[0], steps[1], steps[0]]).unwrap();
-    assert_eq!((replay.steps, replay.stopped), (2, Some(Refusal::AtEnd)));
+    assert_eq!((replay.steps, replay.stopped), (2, Some(Reason::AtEnd)));
     assert_eq!(replay.ending.outcome.registers[0][..3], [Some(0), Some(1), Some(0)]);
     assert_eq!((replay.ending.places[0], replay.ending.queues[0]), (Some(1), 0));
-    assert_eq!(womm::replay(&case, &[steps[0]; 97]), Err(Refusal::ScheduleLength));
+    assert_eq!(womm::replay(&case, &[steps[0]; 97]), Err(Reason::ScheduleLength.into()));
 }
 
 #[test]
@@ -20,8 +20,8 @@ fn a_typed_list() {
     let seen: Vec<_> = listing.outcomes.iter().map(|outcome| outcome.registers[1][2..4].to_vec()).collect();
     assert_eq!(seen, [[0, 0], [0, 1], [1, 0], [1, 1]].map(|row| row.map(Some).to_vec()));
     assert!(!listing.cut);
-    assert_eq!(womm::outcomes(&case, 8, 3), Err(Refusal::Room));
-    assert_eq!(womm::outcomes(&case, 97, 4), Err(Refusal::Bound));
+    assert_eq!(womm::outcomes(&case, 8, 3), Err(Reason::Room.into()));
+    assert_eq!(womm::outcomes(&case, 97, 4), Err(Reason::Bound.into()));
 }
 
 #[test]
@@ -30,14 +30,18 @@ fn a_block_read_and_written() {
     assert_eq!(womm::read(&block), Ok(()));
     let mut open = block;
     open[510..].fill(0xC7);
-    assert_eq!(womm::read(&open), Err(Refusal::Check));
+    assert_eq!(womm::read(&open), Err(Reason::Check.into()));
     assert_eq!((womm::write(&mut open), open), (Ok(()), block));
     let mut bad = block;
     bad[381] = 1;
-    assert_eq!((womm::write(&mut bad), bad), (Err(Refusal::Unused), [0; 512]));
+    assert_eq!((womm::write(&mut bad), bad), (Err(Refusal { reason: Reason::Unused, position: 381 }), [0; 512]));
+    let mut slip = block;
+    slip[173] = 9;
+    let refusal = womm::write(&mut slip).unwrap_err();
+    assert!(refusal.to_string().ends_with(": byte 173, processor 1, instruction 1, b"), "{refusal}");
     for length in (0..600).filter(|&length| length != 512) {
         let mut other = vec![0xC7; length];
-        assert_eq!(womm::read(&other), Err(Refusal::BlockLength));
-        assert_eq!((womm::write(&mut other), other), (Err(Refusal::BlockLength), vec![0; length]));
+        assert_eq!(womm::read(&other), Err(Reason::BlockLength.into()));
+        assert_eq!((womm::write(&mut other), other), (Err(Reason::BlockLength.into()), vec![0; length]));
     }
 }

@@ -1,4 +1,4 @@
-// Reads the blocks that its arguments name. Of each it prints the code, and for code 0 whether writing the case gives the same bytes again.
+// Reads the blocks that its arguments name. Of each it prints the code and its position, or for code 0 whether writing the case gives the same bytes again.
 use cases::Case;
 use libc::STDOUT_FILENO;
 
@@ -31,6 +31,9 @@ fn report(name: &[u8], block: &[u8]) {
     if code == 0 {
         let case = read.case;
         print_kept(kept(case, block));
+    } else {
+        print(b" at ");
+        io::print_decimal(STDOUT_FILENO, read.position as u64);
     }
     print(b"\n");
 }

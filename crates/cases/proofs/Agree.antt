@@ -1,7 +1,7 @@
--- Codes 3 to 7 and the check look at bytes 0 to 509 alone. Assumes nothing.
-use mathlib.Core.Path.{_≡_, refl, ap}
+-- Codes 3 to 7, their positions and the check look at bytes 0 to 509 alone. Assumes nothing.
+use mathlib.Core.Path.{_≡_, refl, ap, _∙_}
 use mathlib.Core.Logic.{⊎-elim}
-use mathlib.Core.Bool.{true}
+use mathlib.Core.Bool.{Bool, true, cond}
 use mathlib.Core.List.{List}
 use Prim.Native.Nat.{ℕ, zero, suc, _+_, _-_, _/_, _%_, _<_, _≤_}
 use native.Mathlib.Omega.{arith}
@@ -10,7 +10,12 @@ use lib.ListN.{getD}
 use borrow.Author.Tests.{ltb-true}
 use Rattle.words.specs.Refusals.{firstOf}
 use Rattle.words.proofs.Bools.{decide, and-both, below-same}
-use Rattle.cases.specs.Block.{within, weighted, check, bad3, bad4, zero5, bad5, badByte, bad6, bad7, faults}
+use Rattle.cases.specs.Block.{within, weighted, check, bad3, bad4, zero5, bad5, badByte, bad6, bad7, faults, lowest, bad, positionOf, faultOf}
+
+lowest-same : (n : ℕ) (f g : ℕ → Bool) → ((i : ℕ) → i < n → f i ≡ g i) → lowest n f ≡ lowest n g
+unfolding lowest
+lowest-same zero f g h = refl
+lowest-same (suc n) f g h = rw (h 0 (omega arith), lowest-same n (λ i. f (suc i)) (λ i. g (suc i)) (λ i b. h (suc i) (omega arith)))
 
 module _ (s t : List ℕ) (same : (i : ℕ) → i < 510 → getD s i 0 ≡ getD t i 0) where
   bad3-same : (i : ℕ) → i < 510 → bad3 s i ≡ bad3 t i
@@ -49,6 +54,14 @@ module _ (s t : List ℕ) (same : (i : ℕ) → i < 510 → getD s i 0 ≡ getD 
   pub faults-same : firstOf (faults s) ≡ firstOf (faults t)
   unfolding firstOf
   faults-same = rw (below-same 510 (bad3 s) (bad3 t) bad3-same, below-same 510 (bad4 s) (bad4 t) bad4-same, below-same 510 (bad5 s) (bad5 t) bad5-same, below-same 510 (bad6 s) (bad6 t) bad6-same, below-same 510 (bad7 s) (bad7 t) bad7-same)
+
+  bad-same : (code i : ℕ) → i < 510 → bad s code i ≡ bad t code i
+  unfolding bad
+  bad-same code i h = rw (bad3-same i h, bad4-same i h, bad5-same i h, bad6-same i h, bad7-same i h)
+
+  pub fault-same : (code code′ : ℕ) → code ≡ code′ → faultOf s code ≡ faultOf t code′
+  unfolding positionOf
+  fault-same code code′ e = (λ j. record { code = code; position = cond (ltb code 3) 0 (lowest-same 510 (bad s code) (bad t code) (bad-same code) j) }) ∙ ap (faultOf t) e
 
   weighted-same : (n : ℕ) → n ≤ 510 → weighted s n ≡ weighted t n
   unfolding weighted

@@ -5,6 +5,7 @@ use Prim.Native.Nat.{ℕ, zero, suc, _+_, _*_, _<_, _≤_}
 use native.Mathlib.Nat.{mul-le-mul}
 use native.Mathlib.Numerals.{add-one}
 use native.Mathlib.Omega.{arith}
+use lib.Dec.{lit<}
 use lib.ListN.{length}
 use borrow.Author.Tests.{eq-eqb, ne-eqb}
 use Rattle.words.specs.Small.{each}
@@ -16,8 +17,8 @@ use Rattle.cases.specs.declared.Instr.{Instr}
 use Rattle.cases.specs.declared.Slot.{Slot}
 use Rattle.cases.specs.declared.Instr.the-variants.{Empty}
 use Rattle.cases.specs.Instruction.{instrOf}
-use Rattle.cases.specs.Block.{byte, word, weighted, check, faults, refusals, slotAt, caseOf, nothing, readOf, answered}
-use Rattle.cases.specs.Faults.{faultOf}
+use Rattle.cases.specs.Block.{byte, word, weighted, check, faults, refusals, positionOf, faultOf, slotAt, caseOf, nothing, caseWith, readOf}
+use Rattle.cases.proofs.Lowest.{fault-none}
 
 -- check: one byte more
 
@@ -35,47 +36,36 @@ weighted-more s i sum b h k = rw (h, k, add-one i)
 -- refusal
 
 module _ (s : List ℕ) where
-  pub not-512 : (length s ≡ 512 → ⊥) → 1 ≡ firstOf (refusals s)
-  not-512 h = first (refusals s) (hit (not-yes _ (ne-eqb (length s) 512 h)))
+  pub not-512 : (length s ≡ 512 → ⊥) → record { code = 1; position = 0 } ≡ faultOf s (firstOf (refusals s))
+  not-512 h = fault-none s 1 _ (lit< tt) (first (refusals s) (hit (not-yes _ (ne-eqb (length s) 512 h))))
 
-  pub not-check : length s ≡ 512 → (word s 510 ≡ check s → ⊥) → 2 ≡ firstOf (refusals s)
-  not-check h k = first (refusals s) (miss (not-no _ (eq-eqb (length s) 512 h)) (hit (not-yes _ (ne-eqb (word s 510) (check s) k))))
+  pub not-check : length s ≡ 512 → (word s 510 ≡ check s → ⊥) → record { code = 2; position = 0 } ≡ faultOf s (firstOf (refusals s))
+  not-check h k = fault-none s 2 _ (lit< tt) (first (refusals s) (miss (not-no _ (eq-eqb (length s) 512 h)) (hit (not-yes _ (ne-eqb (word s 510) (check s) k)))))
 
   pub past-check : length s ≡ 512 → word s 510 ≡ check s → firstOf (faults s) ≡ firstOf (refusals s)
   unfolding firstOf
   past-check h k = rw (eq-eqb (length s) 512 h, eq-eqb (word s 510) (check s) k)
 
-pub fault-code : (s : List ℕ) (f : Fault) → f ≡ faultOf s → f .code ≡ firstOf (faults s)
-unfolding faultOf
-fault-code s f h = ap (λ (f : Fault). f .code) h
-
--- readOf: the code is the first refusal, and the case of a block that is not refused the one that it holds
-
-pub readOf-code : (s : List ℕ) → readOf s .code ≡ firstOf (refusals s)
-unfolding readOf
-readOf-code s = by (firstOf (refusals s))
-  where
-    by : (n : ℕ) → answered n (caseOf s) .code ≡ n
-    by zero = refl
-    by (suc n) = refl
-
-pub readOf-case : (s : List ℕ) → firstOf (refusals s) ≡ 0 → readOf s .case ≡ caseOf s
-unfolding readOf
-readOf-case s h = ap (λ (n : ℕ). answered n (caseOf s) .case) h
-
 -- read_case
 
-pub read-refused : (s : List ℕ) (code : ℕ) (c : Case) → code ≡ firstOf (refusals s) → (code ≡ 0 → ⊥) → c ≡ nothing → record { code = code; case = c } ≡ readOf s
-unfolding readOf
-read-refused s code c h k e = refused code k ∙ ap (λ (n : ℕ). answered n (caseOf s)) h
-  where
-    refused : (n : ℕ) → (n ≡ 0 → ⊥) → record { code = n; case = c } ≡ answered n (caseOf s)
-    refused zero k = absurd (k refl)
-    refused (suc n) k = λ j. record { code = suc n; case = e j }
+module _ (s : List ℕ) (f : Fault) (h : f ≡ faultOf s (firstOf (refusals s))) (c : Case) where
+  code-is : f .code ≡ firstOf (refusals s)
+  code-is = ap (λ (f : Fault). f .code) h
 
-pub read-accepted : (s : List ℕ) (code : ℕ) (c : Case) → code ≡ firstOf (refusals s) → code ≡ 0 → c ≡ caseOf s → record { code = 0; case = c } ≡ readOf s
-unfolding readOf
-read-accepted s code c h k e = (λ j. record { code = 0; case = e j }) ∙ ap (λ (n : ℕ). answered n (caseOf s)) (sym k ∙ h)
+  pub read-refused : (f .code ≡ 0 → ⊥) → c ≡ nothing → record { code = f .code; position = f .position; case = c } ≡ readOf s
+  unfolding readOf
+  read-refused k e =
+      let position = ap (λ (f : Fault). f .position) h in
+      let case = e ∙ refused (firstOf (refusals s)) (λ z. k (code-is ∙ z)) in
+      λ j. record { code = code-is j; position = position j; case = case j }
+    where
+      refused : (n : ℕ) → (n ≡ 0 → ⊥) → nothing ≡ caseWith n (caseOf s)
+      refused zero k = absurd (k refl)
+      refused (suc n) k = refl
+
+  pub read-accepted : f .code ≡ 0 → c ≡ caseOf s → record { code = 0; position = 0; case = c } ≡ readOf s
+  unfolding readOf positionOf
+  read-accepted k e = (λ j. record { code = 0; position = 0; case = e j }) ∙ ap (λ (n : ℕ). record { code = n; position = positionOf s n; case = caseWith n (caseOf s) }) (sym k ∙ code-is)
 
 -- slot
 

@@ -9,4 +9,6 @@ pub mod Ranges
 pub mod Held
 pub mod Kept
 pub mod Signed
+pub mod Positions
+pub mod Told
 pub mod RoundTrip

@@ -6,13 +6,13 @@ use mathlib.Core.List.{List}
 use Prim.Native.Nat.{ℕ, zero, suc, _<_, _≤_}
 use native.Mathlib.Omega.{arith}
 use native.Mathlib.Decide.{decLt}
-use lib.Dec.{lit<}
+use lib.Dec.{ltb, lit<}
+use borrow.Author.Tests.{lt-ltb, le-ltb}
 use Rattle.words.specs.Small.{someBelow}
 use Rattle.words.specs.Refusals.{firstOf}
-use Rattle.words.proofs.Bools.{decide, below-cases, below-make}
+use Rattle.words.proofs.Bools.{cond-true, cond-false, decide, below-cases, below-make}
 use Rattle.words.proofs.First.{hit, miss, none, first}
-use Rattle.cases.specs.Block.{bad3, bad4, bad5, bad6, bad7, faults}
-use Rattle.cases.specs.Faults.{lowest, bad, faultOf}
+use Rattle.cases.specs.Block.{lowest, bad3, bad4, bad5, bad6, bad7, faults, refusals, bad, positionOf, faultOf}
 
 pub lowest-is : (n : ℕ) (f : ℕ → Bool) (r : ℕ) → r ≤ n → ((k : ℕ) → k < r → f k ≡ false) → (r < n → f r ≡ true) → r ≡ lowest n f
 unfolding lowest
@@ -95,16 +95,24 @@ module _ (s : List ℕ) where
   unfolding bad
   no-code p = first (faults s) (miss (p 3 (lit< tt)) (miss (p 4 (lit< tt)) (miss (p 5 (lit< tt)) (miss (p 6 (lit< tt)) (miss (p 7 (lit< tt)) none)))))
 
-  fault-is : (code at : ℕ) → code ≡ firstOf (faults s) → at ≡ lowest 510 (bad s code) → record { code = code; at = at } ≡ faultOf s
-  unfolding faultOf
-  fault-is code at p q = let r = q ∙ ap (λ (n : ℕ). lowest 510 (bad s n)) p in λ j. record { code = p j; at = r j }
+  -- a code that is the one asked for, with its position
+  fault-is : (code position n : ℕ) → code ≡ n → position ≡ positionOf s code → record { code = code; position = position } ≡ faultOf s n
+  fault-is code position n p q = let r = q ∙ ap (positionOf s) p in λ j. record { code = p j; position = r j }
+
+  -- 1, 2 and no code carry 0
+  pub fault-none : (code n : ℕ) → code < 3 → code ≡ n → record { code = code; position = 0 } ≡ faultOf s n
+  unfolding positionOf
+  fault-none code n h p = fault-is code 0 n p (sym (cond-true (ltb code 3) 0 _ (lt-ltb code 3 h)))
 
   -- the answers of judge: at a code with a bad position, and after the last code
-  pub fault-found : (code at : ℕ) → 3 ≤ code → code < 8 → Passed s code → at ≡ lowest 510 (bad s code) → at < 510 → record { code = code; at = at } ≡ faultOf s
-  fault-found code at l h p e b = fault-is code at (first-code code l h p (some-bad 510 (bad s code) (subst (λ (n : ℕ). n < 510) e b))) e
+  pub judge-found : (code position : ℕ) → 3 ≤ code → code < 8 → Passed s code → position ≡ lowest 510 (bad s code) → position < 510 → record { code = code; position = position } ≡ faultOf s (firstOf (faults s))
+  unfolding positionOf
+  judge-found code position l h p e b =
+      fault-is code position _ (first-code code l h p (some-bad 510 (bad s code) (subst (λ (n : ℕ). n < 510) e b)))
+      (e ∙ sym (cond-false (ltb code 3) 0 _ (le-ltb code 3 l)))
 
-  pub fault-none : (code : ℕ) → 8 ≤ code → code ≤ 8 → Passed s code → record { code = 0; at = 510 } ≡ faultOf s
-  fault-none code l h p = fault-is 0 510 (no-code (subst (Passed s) (omega arith) p)) (none-lowest 510 (bad s 0) (λ k b. no-byte 0 (lit< tt) k))
+  pub judge-none : (code : ℕ) → 8 ≤ code → code ≤ 8 → Passed s code → record { code = 0; position = 0 } ≡ faultOf s (firstOf (faults s))
+  judge-none code l h p = fault-none 0 _ (lit< tt) (no-code (subst (Passed s) (omega arith) p))
 
 -- bad: the test of each code
 module _ (s : List ℕ) (i : ℕ) where

@@ -3,7 +3,7 @@ use mathlib.Core.Path.{_≡_, refl, ap, sym, _∙_, subst}
 use mathlib.Core.Logic.{_↔_}
 use mathlib.Core.Bool.{false, not}
 use mathlib.Core.List.{List, _++_}
-use Prim.Native.Nat.{ℕ, _<_}
+use Prim.Native.Nat.{ℕ, zero, suc, _<_}
 use native.Mathlib.Omega.{arith}
 use lib.Dec.{eqb}
 use lib.ListN.{length, getD, take, replicate}
@@ -14,10 +14,10 @@ use Rattle.words.proofs.Bools.{cond-true}
 use Rattle.words.proofs.First.{first-none}
 use Rattle.cases.specs.declared.Case.{Case}
 use Rattle.cases.specs.declared.CaseRead.{CaseRead}
+use Rattle.cases.specs.declared.Fault.{Fault}
 use Rattle.cases.specs.Instruction.{two}
-use Rattle.cases.specs.Block.{word, check, faults, caseOf, readOf, contents, blockOf, Sound, sealCode, sealed, writeCode, written}
+use Rattle.cases.specs.Block.{word, check, faults, refusals, caseOf, caseWith, readOf, contents, blockOf, Sound, sealCode, sealFault, sealed, writeCode, writeFault, written}
 use Rattle.cases.specs.Formed.{Bytes, Formed, Held}
-use Rattle.cases.proofs.Decoding.{readOf-code, readOf-case}
 use Rattle.cases.proofs.Agree.{faults-same, check-same}
 use Rattle.cases.proofs.Held.{clean, contents-back, word-part}
 use Rattle.cases.proofs.Kept.{case-same, contents-long, contents-kept}
@@ -32,15 +32,15 @@ pub record Accepted (s : List ℕ) : Type 0 where
   pub held : readOf s .case ≡ caseOf s
 
 accepted : (s : List ℕ) → readOf s .code ≡ 0 → Accepted s
+unfolding readOf
 accepted s h =
-    let z = sym (readOf-code s) ∙ h in
-    let a = first-none 0 _ _ z in
+    let a = first-none 0 _ _ h in
     let b = first-none 1 _ _ (a .1) in
     record {
       long = eqb-true (length s) 512 (not-false _ (a .0));
       checked = eqb-true (word s 510) (check s) (not-false _ (b .0));
       sound = b .1;
-      held = readOf-case s z;
+      held = ap (λ (n : ℕ). caseWith n (caseOf s)) h;
     }
 
 -- a buffer of 512 bytes: the code is the case's own
@@ -89,12 +89,12 @@ module _ (c : Case) (f : Formed c) where
   long : length (contents c) ≡ 510
   long = contents-long c (f .counts .0) (f .masks .0) (f .presets .0) (f .memory .0) (f .code .0)
 
-  block-read : Sound c → readOf (blockOf c) ≡ record { code = 0; case = c }
+  block-read : Sound c → readOf (blockOf c) ≡ record { code = 0; position = 0; case = c }
   unfolding blockOf
-  block-read h = signed-read (contents c) long h ∙ (λ t. record { code = 0; case = contents-kept c (f .counts .0) (f .masks .0) (f .presets .0) (f .memory .0) (f .code .0) t })
+  block-read h = signed-read (contents c) long h ∙ (λ t. record { code = 0; position = 0; case = contents-kept c (f .counts .0) (f .masks .0) (f .presets .0) (f .memory .0) (f .code .0) t })
 
   -- A record that is written with code 0 and read again is the same record.
-  pub read-written : writeCode c 512 ≡ 0 → readOf (written c 512) ≡ record { code = 0; case = c }
+  pub read-written : writeCode c 512 ≡ 0 → readOf (written c 512) ≡ record { code = 0; position = 0; case = c }
   read-written h = let sound = written-code c ∙ h in ap readOf (written-sound c sound) ∙ block-read sound
 
   -- A case is sound exactly if some block holds it.
@@ -123,12 +123,12 @@ module _ (s : List ℕ) where
   same i h = getD-take 510 s i 0 h
 
   -- A buffer that is sealed with code 0 is a block, and holds the case that the buffer held.
-  pub read-sealed : sealCode s ≡ 0 → readOf (sealed s) ≡ record { code = 0; case = caseOf s }
+  pub read-sealed : sealCode s ≡ 0 → readOf (sealed s) ≡ record { code = 0; position = 0; case = caseOf s }
   read-sealed h =
       let long : length s ≡ 512 = eqb-true (length s) 512 (not-false _ (code-split h .0)) in
       ap readOf (sealed-is h ∙ ap (λ (n : ℕ). take 510 s ++ two n) (sym (check-same (take 510 s) s same)))
       ∙ signed-read (take 510 s) (length-take-le 510 s (omega (arith, long))) (faults-same (take 510 s) s same ∙ code-split h .1)
-      ∙ (λ t. record { code = 0; case = case-same (take 510 s) s same t })
+      ∙ (λ t. record { code = 0; position = 0; case = case-same (take 510 s) s same t })
 
   -- A block that is read with code 0 is sealed with code 0, and stays as it is.
   pub sealed-read : Bytes s → readOf s .code ≡ 0 → (sealCode s ≡ 0) × (sealed s ≡ s)
@@ -141,10 +141,10 @@ module _ (s : List ℕ) where
 pub read-unique : (s : List ℕ) (r r′ : CaseRead) → r ≡ readOf s → r′ ≡ readOf s → r ≡ r′
 read-unique s r r′ p q = p ∙ sym q
 
--- At most one code and one buffer are right for a record and a size.
-pub write-unique : (c : Case) (size code code′ : ℕ) (block block′ : List ℕ) → (code ≡ writeCode c size) × (block ≡ written c size) → (code′ ≡ writeCode c size) × (block′ ≡ written c size) → (code ≡ code′) × (block ≡ block′)
-write-unique c size code code′ block block′ p q = (p .0 ∙ sym (q .0), p .1 ∙ sym (q .1))
+-- At most one code, one position and one buffer are right for a record and a size.
+pub write-unique : (c : Case) (size : ℕ) (f f′ : Fault) (block block′ : List ℕ) → (f ≡ writeFault c size) × (block ≡ written c size) → (f′ ≡ writeFault c size) × (block′ ≡ written c size) → (f ≡ f′) × (block ≡ block′)
+write-unique c size f f′ block block′ p q = (p .0 ∙ sym (q .0), p .1 ∙ sym (q .1))
 
--- At most one code and one buffer are right for bytes to be sealed.
-pub seal-unique : (s : List ℕ) (code code′ : ℕ) (block block′ : List ℕ) → (code ≡ sealCode s) × (block ≡ sealed s) → (code′ ≡ sealCode s) × (block′ ≡ sealed s) → (code ≡ code′) × (block ≡ block′)
-seal-unique s code code′ block block′ a b = (a .0 ∙ sym (b .0), a .1 ∙ sym (b .1))
+-- At most one code, one position and one buffer are right for bytes to be sealed.
+pub seal-unique : (s : List ℕ) (f f′ : Fault) (block block′ : List ℕ) → (f ≡ sealFault s) × (block ≡ sealed s) → (f′ ≡ sealFault s) × (block′ ≡ sealed s) → (f ≡ f′) × (block ≡ block′)
+seal-unique s f f′ block block′ a b = (a .0 ∙ sym (b .0), a .1 ∙ sym (b .1))

@@ -7,7 +7,7 @@ use lib.ListN.{length, getD, length-append, List·getD-append}
 use lib.Seq.{getD-append-add}
 use Rattle.words.specs.Refusals.{firstOf}
 use Rattle.cases.specs.Instruction.{two}
-use Rattle.cases.specs.Block.{word, check, faults, caseOf, readOf}
+use Rattle.cases.specs.Block.{word, check, faults, faultOf, caseOf, readOf}
 use Rattle.cases.proofs.Agree.{faults-same, check-same}
 use Rattle.cases.proofs.Decoding.{read-accepted, past-check}
 use Rattle.cases.proofs.Kept.{case-same}
@@ -29,7 +29,7 @@ module _ (s : List ℕ) (long : length s ≡ 510) where
   signed-check : word signed 510 ≡ check signed
   signed-check = (λ t. above 0 t + 256 * above 1 t) ∙ two-back (check s) ∙ sym (check-same signed s below)
 
-  pub signed-read : firstOf (faults s) ≡ 0 → readOf (s ++ two (check s)) ≡ record { code = 0; case = caseOf s }
+  pub signed-read : firstOf (faults s) ≡ 0 → readOf (s ++ two (check s)) ≡ record { code = 0; position = 0; case = caseOf s }
   signed-read h =
       let code = sym (past-check signed signed-long signed-check) ∙ faults-same signed s below ∙ h in
-      sym (read-accepted signed 0 (caseOf s) (sym code) refl (sym (case-same signed s below)))
+      sym (read-accepted signed (faultOf signed 0) (ap (faultOf signed) (sym code)) (caseOf s) refl (sym (case-same signed s below)))

@@ -4,7 +4,7 @@ use mathlib.Core.Bool.{not, cond}
 use mathlib.Core.List.{List, _∷_, _++_}
 use Prim.Native.Nat.{ℕ, _-_, _<_}
 use native.Mathlib.Omega.{arith}
-use lib.Dec.{eqb}
+use lib.Dec.{eqb, lit<}
 use lib.ListN.{length, getD, take, replicate}
 use lib.Seq.{getD-take}
 use borrow.Author.Tests.{eq-eqb, ne-eqb}
@@ -14,10 +14,9 @@ use Rattle.words.proofs.First.{hit, first, not-yes}
 use Rattle.cases.specs.declared.Case.{Case}
 use Rattle.cases.specs.declared.Fault.{Fault}
 use Rattle.cases.specs.Instruction.{two}
-use Rattle.cases.specs.Block.{faults, check, contents, blockOf, sealCode, sealed, writeCode, written}
-use Rattle.cases.specs.Faults.{faultOf}
-use Rattle.cases.proofs.Agree.{faults-same, check-same}
-use Rattle.cases.proofs.Decoding.{fault-code}
+use Rattle.cases.specs.Block.{faults, check, contents, blockOf, faultOf, sealCode, sealFault, sealed, writeCode, writeFault, written}
+use Rattle.cases.proofs.Agree.{faults-same, fault-same, check-same}
+use Rattle.cases.proofs.Lowest.{fault-none}
 
 module _ (b b′ : List ℕ) where
   -- all zeros
@@ -27,34 +26,41 @@ module _ (b b′ : List ℕ) where
       let z : length b - 0 ≡ length b = omega arith in
       e ∙ ap (λ (n : ℕ). replicate n 0) z ∙ sym (cond-false (eqb (sealCode b) 0) (take 510 b ++ two (check b)) (replicate (length b) 0) (ne-eqb _ 0 (λ w. h (q ∙ w))))
 
-  pub no-room : (length b ≡ 512 → ⊥) → b′ ≡ take 0 b ++ replicate (length b - 0) 0 → (1 ≡ sealCode b) × (b′ ≡ sealed b)
+  pub no-room : (length b ≡ 512 → ⊥) → b′ ≡ take 0 b ++ replicate (length b - 0) 0 → (record { code = 1; position = 0 } ≡ sealFault b) × (b′ ≡ sealed b)
   unfolding sealCode
   no-room h e =
       let q = first (1 when not (eqb (length b) 512) ∷ faults b) (hit (not-yes _ (ne-eqb (length b) 512 h))) in
-      (q, zeros 1 q (λ w. absurd (omega arith)) e)
+      (fault-none b 1 (sealCode b) (lit< tt) q, zeros 1 q (λ w. absurd (omega arith)) e)
 
-  module _ (size : length b ≡ 512) (f : Fault) (e : f ≡ faultOf b) where
-    code-is : f .code ≡ sealCode b
+  module _ (size : length b ≡ 512) (f : Fault) (e : f ≡ faultOf b (firstOf (faults b))) where
+    judged : firstOf (faults b) ≡ sealCode b
     unfolding sealCode firstOf
-    code-is = fault-code b f e ∙ rw (eq-eqb (length b) 512 size)
+    judged = rw (eq-eqb (length b) 512 size)
 
-    pub refused : (f .code ≡ 0 → ⊥) → b′ ≡ take 0 b ++ replicate (length b - 0) 0 → (f .code ≡ sealCode b) × (b′ ≡ sealed b)
-    refused h z = (code-is, zeros (f .code) code-is h z)
+    fault-is : f ≡ sealFault b
+    fault-is = e ∙ ap (faultOf b) judged
 
-    pub accepted : f .code ≡ 0 → b′ ≡ take 510 b ++ two (check b) → (0 ≡ sealCode b) × (b′ ≡ sealed b)
+    code-is : f .code ≡ sealCode b
+    code-is = ap (λ (f : Fault). f .code) fault-is
+
+    pub refused : (f .code ≡ 0 → ⊥) → b′ ≡ take 0 b ++ replicate (length b - 0) 0 → (f ≡ sealFault b) × (b′ ≡ sealed b)
+    refused h z = (fault-is, zeros (f .code) code-is h z)
+
+    pub accepted : f .code ≡ 0 → b′ ≡ take 510 b ++ two (check b) → (f ≡ sealFault b) × (b′ ≡ sealed b)
     unfolding sealed
-    accepted h z =
-        let q = sym h ∙ code-is in
-        (q, z ∙ sym (cond-true (eqb (sealCode b) 0) (take 510 b ++ two (check b)) (replicate (length b) 0) (eq-eqb _ 0 (sym q))))
+    accepted h z = (fault-is, z ∙ sym (cond-true (eqb (sealCode b) 0) (take 510 b ++ two (check b)) (replicate (length b) 0) (eq-eqb _ 0 (sym code-is ∙ h))))
 
 -- a buffer that is filled with the contents of a case, and then sealed
 module _ (c : Case) (s : List ℕ) (long : length s ≡ 512) (front : take 510 s ≡ contents c) where
   agrees : (i : ℕ) → i < 510 → getD s i 0 ≡ getD (contents c) i 0
   agrees i h = sym (getD-take 510 s i 0 h) ∙ ap (λ (l : List ℕ). getD l i 0) front
 
-  pub code-written : sealCode s ≡ writeCode c 512
+  code-written : sealCode s ≡ writeCode c 512
   unfolding sealCode writeCode firstOf
   code-written = rw (eq-eqb (length s) 512 long) (faults-same s (contents c) agrees)
+
+  pub fault-written : sealFault s ≡ writeFault c 512
+  fault-written = fault-same s (contents c) agrees (sealCode s) (writeCode c 512) code-written
 
   pub sealed-written : sealed s ≡ written c 512
   unfolding sealed written blockOf
@@ -64,14 +70,14 @@ module _ (c : Case) (s : List ℕ) (long : length s ≡ 512) (front : take 510 s
 
 module _ (c : Case) (b b′ : List ℕ) where
   -- no room for the block
-  pub unwritten : (length b ≡ 512 → ⊥) → b′ ≡ take 0 b ++ replicate (length b - 0) 0 → (1 ≡ writeCode c (length b)) × (b′ ≡ written c (length b))
+  pub unwritten : (length b ≡ 512 → ⊥) → b′ ≡ take 0 b ++ replicate (length b - 0) 0 → (record { code = 1; position = 0 } ≡ writeFault c (length b)) × (b′ ≡ written c (length b))
   unfolding written writeCode
   unwritten h e =
       let q = first (1 when not (eqb (length b) 512) ∷ faults (contents c)) (hit (not-yes _ (ne-eqb (length b) 512 h))) in
       let n : length b - 0 ≡ length b = omega arith in
-      (q, e ∙ ap (λ (n : ℕ). replicate n 0) n ∙ sym (cond-false (eqb (writeCode c (length b)) 0) (blockOf c) (replicate (length b) 0) (ap (λ (n : ℕ). eqb n 0) (sym q))))
+      (fault-none (contents c) 1 (writeCode c (length b)) (lit< tt) q, e ∙ ap (λ (n : ℕ). replicate n 0) n ∙ sym (cond-false (eqb (writeCode c (length b)) 0) (blockOf c) (replicate (length b) 0) (ap (λ (n : ℕ). eqb n 0) (sym q))))
 
-  pub written-by : (n : ℕ) (s : List ℕ) → length b ≡ 512 → length s ≡ 512 → take 510 s ≡ contents c → (n ≡ sealCode s) × (b′ ≡ sealed s) → (n ≡ writeCode c (length b)) × (b′ ≡ written c (length b))
-  written-by n s size long front w =
+  pub written-by : (f : Fault) (s : List ℕ) → length b ≡ 512 → length s ≡ 512 → take 510 s ≡ contents c → (f ≡ sealFault s) × (b′ ≡ sealed s) → (f ≡ writeFault c (length b)) × (b′ ≡ written c (length b))
+  written-by f s size long front w =
       let q : 512 ≡ length b = sym size in
-      (w .0 ∙ code-written c s long front ∙ ap (writeCode c) q, w .1 ∙ sealed-written c s long front ∙ ap (written c) q)
+      (w .0 ∙ fault-written c s long front ∙ ap (writeFault c) q, w .1 ∙ sealed-written c s long front ∙ ap (written c) q)

@@ -1,6 +1,6 @@
 -- The case block: which bytes are bad for which code, the case it holds, the block that holds a case. Assumes nothing.
 use mathlib.Core.Path.{_≡_}
-use mathlib.Core.Bool.{Bool, _&&_, _||_, not, cond}
+use mathlib.Core.Bool.{Bool, false, _&&_, _||_, not, cond}
 use mathlib.Core.List.{List, [], _∷_, _++_}
 use Prim.Native.Nat.{ℕ, zero, suc, _+_, _*_, _-_, _/_, _%_}
 use lib.Dec.{eqb, ltb, leb}
@@ -11,6 +11,7 @@ use Rattle.words.specs.Sets.{has}
 use Rattle.cases.specs.declared.Slot.{Slot}
 use Rattle.cases.specs.declared.Case.{Case}
 use Rattle.cases.specs.declared.CaseRead.{CaseRead}
+use Rattle.cases.specs.declared.Fault.{Fault}
 use Rattle.cases.specs.declared.Instr.the-variants.{Empty}
 use Rattle.cases.specs.Instruction.{fieldAt, badField, instrOf, instrBytes, two}
 
@@ -29,6 +30,11 @@ numberAt i = (i - 92) % 72 / 6
 -- Which of its six bytes stands there.
 abbrev pub byteAt : ℕ → ℕ
 byteAt i = (i - 92) % 6
+
+-- The least number below n with the test, n where there is none.
+unfoldable pub lowest : ℕ → (ℕ → Bool) → ℕ
+lowest zero f = 0
+lowest (suc n) f = cond (f 0) 0 (suc (lowest n (λ i. f (suc i))))
 
 module _ (s : List ℕ) where
   -- The byte at position i.
@@ -115,6 +121,18 @@ module _ (s : List ℕ) where
   abbrev pub refusals : List Refusal
   refusals = 1 when not (eqb (length s) 512) ∷ 2 when not (eqb (word 510) check) ∷ faults
 
+  -- Position i is bad for a code. Of a bad label it is the constant's low byte.
+  unfoldable pub bad : ℕ → ℕ → Bool
+  bad code i = getD (false ∷ false ∷ false ∷ bad3 i ∷ bad4 i ∷ bad5 i ∷ bad6 i ∷ bad7 i ∷ []) code false
+
+  -- The position that a code carries: with 3 to 7 the lowest that is bad for it; 1, 2 and no code carry 0.
+  unfoldable pub positionOf : ℕ → ℕ
+  positionOf code = cond (ltb code 3) 0 (lowest 510 (bad code))
+
+  -- A code with its position.
+  abbrev pub faultOf : ℕ → Fault
+  faultOf code = record { code = code; position = positionOf code }
+
   -- The instruction in slot n.
   abbrev pub slotAt : ℕ → Slot
   slotAt n =
@@ -149,13 +167,16 @@ nothing =
       code = replicate 48 (record { instr = Empty });
     }
 
--- What reading answers.
-abbrev pub answered : ℕ → Case → CaseRead
-answered zero c = record { code = 0; case = c }
-answered (suc n) c = record { code = suc n; case = nothing }
+-- The case that comes with a code: the block's own, or the refused one.
+abbrev pub caseWith : ℕ → Case → Case
+caseWith zero c = c
+caseWith (suc n) c = nothing
 
+-- What reading answers: the first code that applies, its position, and the case.
 unfoldable pub readOf : List ℕ → CaseRead
-readOf s = answered (firstOf (refusals s)) (caseOf s)
+readOf s =
+    let code = firstOf (refusals s) in
+    record { code = code; position = positionOf s code; case = caseWith code (caseOf s) }
 
 -- The six bytes of a slot.
 abbrev pub slotBytes : Slot → List ℕ
@@ -181,17 +202,24 @@ blockOf c = contents c ++ two (check (contents c))
 abbrev pub Sound : Case → Type 0
 Sound c = firstOf (faults (contents c)) ≡ 0
 
--- What sealing bytes answers: 1 on their length, then 3 to 7.
+-- The code of bytes to be sealed: 1 on their length, then 3 to 7.
 unfoldable pub sealCode : List ℕ → ℕ
 sealCode s = firstOf (1 when not (eqb (length s) 512) ∷ faults s)
 
--- What they then are: the first 510 with their check, or all zeros.
+-- What sealing answers: the code and its position; and what the bytes then are: the first 510 with their check, or all zeros.
+abbrev pub sealFault : List ℕ → Fault
+sealFault s = faultOf s (sealCode s)
+
 unfoldable pub sealed : List ℕ → List ℕ
 sealed s = cond (eqb (sealCode s) 0) (take 510 s ++ two (check s)) (replicate (length s) 0)
 
--- What writing a case into a buffer of a size answers, and what the buffer then holds.
+-- The code of a case to be written into a buffer of a size: 1 on the buffer, then 3 to 7 on the bytes that the case would have.
 unfoldable pub writeCode : Case → ℕ → ℕ
 writeCode c size = firstOf (1 when not (eqb size 512) ∷ faults (contents c))
+
+-- What writing answers: the code and the position in those bytes; and what the buffer then holds.
+abbrev pub writeFault : Case → ℕ → Fault
+writeFault c size = faultOf (contents c) (writeCode c size)
 
 unfoldable pub written : Case → ℕ → List ℕ
 written c size = cond (eqb (writeCode c size) 0) (blockOf c) (replicate size 0)

@@ -52,4 +52,4 @@ pub record Formed (c : Case) : Type 0 where
 pub record Held (c : Case) : Type 0 where
   pub block : List ℕ
   pub bytes : Bytes block
-  pub read : readOf block ≡ record { code = 0; case = c }
+  pub read : readOf block ≡ record { code = 0; position = 0; case = c }

@@ -1,6 +1,5 @@
 pub mod Case
 pub mod Block
 pub mod Instruction
-pub mod Faults
 pub mod Putting
 pub mod Formed

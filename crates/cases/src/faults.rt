@@ -5,9 +5,9 @@ use crate::bytes::number;
 use crate::bytes::word;
 ghost use mathlib.Core.Path.{_≡_};
 ghost use Prim.Native.Nat.{_-_, _≤_, _<_};
+ghost use Rattle.words.specs.Refusals.{firstOf};
 ghost use Rattle.cases.specs.Instruction.{badField, fieldAt, fieldOf};
-ghost use Rattle.cases.specs.Block.{within as withinOf, marked as isMarked, noProc, noLoc, used as isUsed, bad3 as isBad3, bad4 as isBad4, zero5 as mustBeZero5, bad5 as isBad5, badByte, bad6 as isBad6, bad7 as isBad7};
-ghost use Rattle.cases.specs.Faults.{bad as isBad, lowest as lowestOf, faultOf};
+ghost use Rattle.cases.specs.Block.{within as withinOf, marked as isMarked, noProc, noLoc, used as isUsed, bad3 as isBad3, bad4 as isBad4, zero5 as mustBeZero5, bad5 as isBad5, badByte, bad6 as isBad6, bad7 as isBad7, bad as isBad, lowest as lowestOf, faults, faultOf};
 
 // How far position i lies past another, 0 before it.
 fn past(from: usize, i: usize) -> usize
@@ -248,15 +248,18 @@ fn lowest(block: &[u8], code: u8) -> usize
 
 // The first of codes 3 to 7 with a bad position, and its lowest.
 pub fn judge(block: &[u8]) -> Fault
-    ensures { λ r. ⌜ r ≡ faultOf (now (block .entry)) ⌝ }
+    ensures { λ r. ⌜ r ≡ faultOf (now (block .entry)) (firstOf (faults (now (block .entry)))) ⌝ }
 {
     let mut code: u8 = 3;
     while code < 8 {
-        let at = lowest(block, code);
-        if at < 510 {
-            return Fault { code, at };
+        let position = lowest(block, code);
+        if position < 510 {
+            return Fault { code, position };
         }
         code += 1;
     }
-    Fault { code: 0, at: 510 }
+    Fault {
+        code: 0,
+        position: 0,
+    }
 }

@@ -6,7 +6,7 @@ mod writing;
 
 ghost use mathlib.Core.Path.{_≡_};
 ghost use lib.ListN.{length};
-ghost use Rattle.cases.specs.Block.{readOf, sealCode, sealed, writeCode, written};
+ghost use Rattle.cases.specs.Block.{readOf, sealFault, sealed, writeFault, written};
 
 // What a local instruction computes.
 pub enum Expr {
@@ -44,60 +44,68 @@ pub struct Case {
     pub code: [Slot; 48],
 }
 
-// What reading a block answers.
+// What reading a block answers: the code, its position, and the case.
 pub struct CaseRead {
     pub code: u8,
+    pub position: usize,
     pub case: Case,
 }
 
-// The first of codes 3 to 7 that a block gets and the lowest position that is bad for it; 0 and 510 where it gets none.
+// A code of a block with the lowest position that is bad for it; codes 1 and 2, and 0 where there is none, have position 0.
 pub struct Fault {
     pub code: u8,
-    pub at: usize,
+    pub position: usize,
 }
 
 // Reads the case that a block holds. A refused block gives the refused case.
 pub fn read_case(block: &[u8]) -> CaseRead
     ensures { λ r. ⌜ r ≡ readOf (now (block .entry)) ⌝ }
 {
-    let code = reading::refusal(block);
-    if code != 0 {
+    let fault = reading::refusal(block);
+    if fault.code != 0 {
         return CaseRead {
-            code,
+            code: fault.code,
+            position: fault.position,
             case: reading::nothing(),
         };
     }
     CaseRead {
         code: 0,
+        position: 0,
         case: reading::case_of(block),
     }
 }
 
 // Makes a block of a buffer that holds one but for its check. Refused, the buffer is all zeros.
-pub fn seal(block: &mut [u8]) -> u8
-    ensures { λ r. ⌜ (r ≡ sealCode (now (block .entry))) × (now (block .exit) ≡ sealed (now (block .entry))) ⌝ }
+pub fn seal(block: &mut [u8]) -> Fault
+    ensures { λ r. ⌜ (r ≡ sealFault (now (block .entry))) × (now (block .exit) ≡ sealed (now (block .entry))) ⌝ }
 {
     if block.len() != 512 {
         writing::clear(block, 0);
-        return 1;
+        return Fault {
+            code: 1,
+            position: 0,
+        };
     }
     let fault = faults::judge(block);
-    let code = fault.code;
-    if code != 0 {
+    if fault.code != 0 {
         writing::clear(block, 0);
-        return code;
+        return fault;
     }
     writing::sign(block);
-    0
+    fault
 }
 
 // Writes the block that holds a case. Refused, the buffer is all zeros.
-pub fn write_case(case: Case, block: &mut [u8]) -> u8
-    ensures { λ r. ⌜ (r ≡ writeCode case (length (now (block .entry)))) × (now (block .exit) ≡ written case (length (now (block .entry)))) ⌝ }
+pub fn write_case(case: Case, block: &mut [u8]) -> Fault
+    ensures { λ r. ⌜ (r ≡ writeFault case (length (now (block .entry)))) × (now (block .exit) ≡ written case (length (now (block .entry)))) ⌝ }
 {
     if block.len() != 512 {
         writing::clear(block, 0);
-        return 1;
+        return Fault {
+            code: 1,
+            position: 0,
+        };
     }
     writing::fill(case, block);
     seal(block)

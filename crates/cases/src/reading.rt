@@ -1,6 +1,7 @@
 // The case that a block holds, field by field.
 use crate::Case;
 use crate::Expr;
+use crate::Fault;
 use crate::Instr;
 use crate::Slot;
 use crate::bytes::byte;
@@ -14,20 +15,25 @@ ghost use lib.ListN.{length, replicate};
 ghost use Rattle.words.specs.Small.{each};
 ghost use Rattle.words.specs.Refusals.{firstOf};
 ghost use Rattle.cases.specs.Instruction.{instrOf};
-ghost use Rattle.cases.specs.Block.{byte as byteOf, word as wordOf, refusals, slotAt, caseOf, nothing as nothingOf};
+ghost use Rattle.cases.specs.Block.{byte as byteOf, word as wordOf, refusals, faultOf, slotAt, caseOf, nothing as nothingOf};
 
-// The first of codes 1 to 7 that a block gets, 0 where it gets none.
-pub fn refusal(block: &[u8]) -> u8
-    ensures { λ r. ⌜ r ≡ firstOf (refusals (now (block .entry))) ⌝ }
+// The first of codes 1 to 7 that a block gets, with its position.
+pub fn refusal(block: &[u8]) -> Fault
+    ensures { λ r. ⌜ r ≡ faultOf (now (block .entry)) (firstOf (refusals (now (block .entry)))) ⌝ }
 {
     if block.len() != 512 {
-        return 1;
+        return Fault {
+            code: 1,
+            position: 0,
+        };
     }
     if word(block, 510) != check(block) {
-        return 2;
+        return Fault {
+            code: 2,
+            position: 0,
+        };
     }
-    let fault = judge(block);
-    fault.code
+    judge(block)
 }
 
 // The instruction of an op and its fields.

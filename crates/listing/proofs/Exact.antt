@@ -19,26 +19,26 @@ refused-unique why size a b out buf x y =
     (λ i. record { code = (x .code ∙ sym (y .code)) i; count = (x .count ∙ sym (y .count)) i; cut = (x .cut ∙ sym (y .cut)) i }, x .bytes ∙ sym (y .bytes))
 
 -- AT MOST ONE ANSWER
-pub outcomes-unique : (block : List ℕ) (bound size : ℕ) (a b : Listed) (out buf : List ℕ) → IsOutcomes block bound size a out → IsOutcomes block bound size b buf → (a ≡ b) × (out ≡ buf)
-outcomes-unique block bound size a b out buf x y = by-code (firstOf (listRefusals block bound)) refl
+pub outcomes-unique : (block : List ℕ) (bound size : ℕ) (a b : Listed) (at to : ℕ) (out buf : List ℕ) → IsOutcomes block bound size a at out → IsOutcomes block bound size b to buf → (a ≡ b) × (at ≡ to) × (out ≡ buf)
+outcomes-unique block bound size a b at to out buf x y = let r = by-code (firstOf (listRefusals block bound)) refl in (r .0, x .position ∙ sym (y .position), r .1)
   where
     by-code : (n : ℕ) → firstOf (listRefusals block bound) ≡ n → (a ≡ b) × (out ≡ buf)
     by-code zero e = listing-unique (caseOf block) bound size a b out buf (x .sound e) (y .sound e)
     by-code (suc n) e = let h : 0 < firstOf (listRefusals block bound) = omega (arith, e) in refused-unique _ size a b out buf (x .unsound h) (y .unsound h)
 
 -- THE SAME FOR LARGER BOUNDS
-pub outcomes-same : (block : List ℕ) (bound more size : ℕ) (a : Listed) (out : List ℕ) → bound ≤ more → more ≤ 96 → a .code ≡ 0 → a .cut ≡ false → IsOutcomes block bound size a out → IsOutcomes block more size a out
-outcomes-same block bound more size a out le few ok unmarked x = by-code (firstOf (listRefusals block bound)) refl
+pub outcomes-same : (block : List ℕ) (bound more size : ℕ) (a : Listed) (at : ℕ) (out : List ℕ) → bound ≤ more → more ≤ 96 → a .code ≡ 0 → a .cut ≡ false → IsOutcomes block bound size a at out → IsOutcomes block more size a at out
+outcomes-same block bound more size a at out le few ok unmarked x = by-code (firstOf (listRefusals block bound)) refl
   where
-    by-code : (n : ℕ) → firstOf (listRefusals block bound) ≡ n → IsOutcomes block more size a out
+    by-code : (n : ℕ) → firstOf (listRefusals block bound) ≡ n → IsOutcomes block more size a at out
     by-code zero e =
         let z = accepted block more (accepted-block block bound e) few in
-        record { sound = λ _. listing-same (caseOf block) bound more size a out le ok unmarked (x .sound e); unsound = λ h. absurd (omega (arith, z)) }
+        record { sound = λ _. listing-same (caseOf block) bound more size a out le ok unmarked (x .sound e); unsound = λ h. absurd (omega (arith, z)); position = x .position }
     by-code (suc n) e = let h : 0 < firstOf (listRefusals block bound) = omega (arith, e) in absurd (omega (arith, x .unsound h .code))
 
 -- as many records as an accepted answer counts fit the buffer
-pub outcomes-room : (block : List ℕ) (bound size : ℕ) (a : Listed) (out : List ℕ) → IsOutcomes block bound size a out → a .code ≡ 0 → 96 * a .count ≤ size
-outcomes-room block bound size a out x ok = by-code (firstOf (listRefusals block bound)) refl
+pub outcomes-room : (block : List ℕ) (bound size : ℕ) (a : Listed) (at : ℕ) (out : List ℕ) → IsOutcomes block bound size a at out → a .code ≡ 0 → 96 * a .count ≤ size
+outcomes-room block bound size a at out x ok = by-code (firstOf (listRefusals block bound)) refl
   where
     by-list : IsListing (womm (caseOf block)) bound size a out → 96 * a .count ≤ size
     by-list y =

@@ -32,11 +32,12 @@ pub struct Span {
     pub to: usize,
 }
 
-// What listing answers: the code, how many records there are, and whether a run was cut.
+// What listing answers: the code, how many records there are, whether a run was cut, and the position that a block's code carries, 0 with any other.
 pub struct Answer {
     pub code: u8,
     pub count: usize,
     pub cut: bool,
+    pub position: usize,
 }
 
 // The positions to sweep: that of a sure step at j, unless it is spent; else those of a quiet read's sources; else all.
@@ -136,22 +137,23 @@ fn explore(
     sum
 }
 
-// Refuses with a code: the buffer is all zeros.
-fn refuse(code: u8, buffer: &mut [u8]) -> Answer
-    ensures { λ r. ⌜ Refused code (length (now (buffer .entry))) (answerOf r) (now (buffer .exit)) ⌝ }
+// Refuses with a code and its position: the buffer is all zeros.
+fn refuse(code: u8, position: usize, buffer: &mut [u8]) -> Answer
+    ensures { λ r. ⌜ Refused code (length (now (buffer .entry))) (answerOf r) (now (buffer .exit)) × (r .position ≡ position) ⌝ }
 {
     records::clear(buffer);
     Answer {
         code,
         count: 0,
         cut: false,
+        position,
     }
 }
 
 // The outcomes of a case within n steps.
 fn search(c: Case, n: usize, out: &mut [u8]) -> Answer
     requires { ⌜ Fit c × (n ≤ 96) ⌝ }
-    ensures { λ r. ⌜ IsListing (womm c) n (length (now (out .entry))) (answerOf r) (now (out .exit)) ⌝ }
+    ensures { λ r. ⌜ IsListing (womm c) n (length (now (out .entry))) (answerOf r) (now (out .exit)) × (r .position ≡ 0) ⌝ }
 {
     records::clear(out);
     let empty = Tally {
@@ -169,26 +171,27 @@ fn search(c: Case, n: usize, out: &mut [u8]) -> Answer
         empty,
     );
     if found.full {
-        return refuse(11, out);
+        return refuse(11, 0, out);
     }
     Answer {
         code: 0,
         count: found.count,
         cut: found.cut,
+        position: 0,
     }
 }
 
 // Lists the outcomes of the case that a block holds within `bound` steps.
 pub fn outcomes(block: &[u8], bound: u32, out: &mut [u8]) -> Answer
-    ensures { λ r. ⌜ IsOutcomes (now (block .entry)) bound (length (now (out .entry))) (answerOf r) (now (out .exit)) ⌝ }
+    ensures { λ r. ⌜ IsOutcomes (now (block .entry)) bound (length (now (out .entry))) (answerOf r) (r .position) (now (out .exit)) ⌝ }
 {
     let read = cases::read_case(block);
     let code = read.code;
     if code != 0 {
-        return refuse(code, out);
+        return refuse(code, read.position, out);
     }
     if bound > 96 {
-        return refuse(10, out);
+        return refuse(10, 0, out);
     }
     let case = read.case;
     search(case, bound as usize, out)

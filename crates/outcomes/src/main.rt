@@ -12,9 +12,14 @@ fn print_number(n: usize) {
     io::print_decimal(STDOUT_FILENO, n as u64);
 }
 
-fn print_refused(code: u8) {
+// A refusal; a block's code is followed by its position.
+fn print_refused(code: u8, position: usize) {
     print(b"refused ");
     print_number(words::wide(code));
+    if code < 8 {
+        print(b" at ");
+        print_number(position);
+    }
     print(b"\n");
 }
 
@@ -107,7 +112,7 @@ fn report(block: &[u8], bound: u32, procs: usize)
     let mut out = io::large_buffer();
     let answer = listing::outcomes(block, bound, &mut out);
     if answer.code != 0 {
-        print_refused(answer.code);
+        print_refused(answer.code, answer.position);
         return;
     }
     print_header(answer.count, answer.cut);
@@ -118,7 +123,7 @@ fn main() {
     let mut input = io::buffer();
     let n = io::read_full(STDIN_FILENO, &mut input);
     if n != 513 {
-        print_refused(1);
+        print_refused(1, 0);
         return;
     }
     let bound = bound_of(input[512], input[2]);

@@ -7,14 +7,13 @@ use native.Mathlib.Omega.{arith}
 use lib.Dec.{eqb, ltb}
 use lib.ListN.{length, replicate}
 use borrow.Author.Tests.{eq-eqb, ne-eqb, eqb-true, lt-ltb, le-ltb, ltb-true, not-false}
-use Rattle.cases.proofs.Decoding.{readOf-code, readOf-case}
 use Rattle.words.specs.Refusals.{Refusal, _when_, firstOf}
 use Rattle.words.proofs.Bools.{and-both, or-none}
 use Rattle.words.proofs.First.{First, first, hit, miss, first-none}
 use Rattle.words.proofs.Passed.{positive}
 use Rattle.cases.specs.declared.Case.{Case}
-use Rattle.cases.specs.declared.CaseRead.{CaseRead}
 use Rattle.cases.specs.Block.{refusals, caseOf, readOf}
+use Rattle.cases.proofs.Told.{read-sound, accepted-position}
 use Rattle.runs.specs.Replay.{replay}
 use Rattle.rules.specs.State.{initial}
 use Rattle.rules.specs.Step.{stepsOf}
@@ -53,32 +52,26 @@ append-first (code when true ∷ rest) m p = rw (ne-eqb code 0 (λ e. omega (ari
 append-first (code when false ∷ rest) m p = append-first rest m (and-both (ltb 0 code) (positive rest) p .1)
 
 module _ (block schedule : List ℕ) (size : ℕ) where
-  abbrev own : ℕ
+  abbrev pub own : ℕ
   own = firstOf (refusals block)
 
-  abbrev all : ℕ
+  abbrev pub all : ℕ
   all = cond (eqb own 0) (firstOf (lengthRefusals (length schedule) size)) own
 
   codes-are : firstOf (replayRefusals block schedule size) ≡ all
   unfolding replayRefusals
   codes-are = append-first (refusals block) (lengthRefusals (length schedule) size) refl
 
-  pub read-code : (r : CaseRead) → r ≡ readOf block → r .code ≡ own
-  read-code r h = ap (λ (x : CaseRead). x .code) h ∙ readOf-code block
-
   -- refused before the first step
-  pub refused : (n : ℕ) (out : List ℕ) → n ≡ all → (n ≡ 0 → ⊥) → out ≡ replicate size 0 → IsReplay block schedule size (record { code = n; steps = 0 }) out
+  pub refused : (n at : ℕ) (out : List ℕ) → n ≡ all → (n ≡ 0 → ⊥) → at ≡ readOf block .position → out ≡ replicate size 0 → IsReplay block schedule size (record { code = n; steps = 0; position = at }) out
   unfolding replayed
-  refused n out h z e = subst (λ (k : ℕ). IsReplay block schedule size (record { code = k; steps = 0 }) out) (sym h) (made all codes-are (λ q. z (h ∙ q)))
+  refused n at out h z q e =
+      let w = ap (λ (i : ℕ). answerFrom i (caseOf block) (stepsOf schedule) size) (codes-are ∙ sym h) ∙ from n z in
+      record { code = sym (ap (λ (a : Answer). a .code) w); steps = sym (ap (λ (a : Answer). a .steps) w); bytes = e ∙ sym (ap (λ (a : Answer). a .bytes) w); position = q }
     where
       from : (k : ℕ) → (k ≡ 0 → ⊥) → answerFrom k (caseOf block) (stepsOf schedule) size ≡ record { code = k; steps = 0; bytes = replicate size 0 }
       from zero z = absurd (z refl)
       from (suc k) z = refl
-
-      made : (k : ℕ) → firstOf (replayRefusals block schedule size) ≡ k → (k ≡ 0 → ⊥) → IsReplay block schedule size (record { code = k; steps = 0 }) out
-      made k q z =
-          let w = ap (λ (i : ℕ). answerFrom i (caseOf block) (stepsOf schedule) size) q ∙ from k z in
-          record { code = sym (ap (λ (a : Answer). a .code) w); steps = sym (ap (λ (a : Answer). a .steps) w); bytes = e ∙ sym (ap (λ (a : Answer). a .bytes) w) }
 
   -- taken up
   module _ (zero-code : 0 ≡ all) where
@@ -86,17 +79,14 @@ module _ (block schedule : List ℕ) (size : ℕ) where
     split zero m h = (refl, sym h)
     split (suc n) m h = let q : 0 ≡ suc n = h ∙ rw (ne-eqb (suc n) 0 (λ e. omega arith)) in absurd (omega arith)
 
-    own-none : own ≡ 0
+    pub own-none : own ≡ 0
     own-none = split own (firstOf (lengthRefusals (length schedule) size)) zero-code .0
 
     lengths-none : firstOf (lengthRefusals (length schedule) size) ≡ 0
     lengths-none = split own (firstOf (lengthRefusals (length schedule) size)) zero-code .1
 
-    pub case-is : (r : CaseRead) → r ≡ readOf block → r .case ≡ caseOf block
-    case-is r h = ap (λ (x : CaseRead). x .case) h ∙ readOf-case block own-none
-
     pub case-fit : Fit (caseOf block)
-    case-fit = fit block (first-none 1 _ _ (first-none 0 _ _ own-none .1) .1)
+    case-fit = fit block (read-sound block own-none)
 
     tests : ((not (eqb (length schedule % 4) 0) || ltb 384 (length schedule)) ≡ false) × (firstOf (9 when not (eqb size 104) ∷ []) ≡ 0)
     tests = first-none 7 _ _ lengths-none
@@ -111,19 +101,21 @@ module _ (block schedule : List ℕ) (size : ℕ) where
     unfolding replayed
     replayed-is = ap (λ (n : ℕ). answerFrom n (caseOf block) (stepsOf schedule) size) (codes-are ∙ sym zero-code)
 
-    pub taken : (c : Case) (w : Walked) (out : List ℕ) → c ≡ caseOf block → IsWalk c (stepsOf schedule) w → out ≡ resultBytes c (shown c (w .machine)) → IsReplay block schedule size (record { code = w .code; steps = w .steps }) out
-    taken c w out same u e = subst (λ (k : Case). IsWalk k (stepsOf schedule) w → out ≡ resultBytes k (shown k (w .machine)) → IsReplay block schedule size (record { code = w .code; steps = w .steps }) out) (sym same) made u e
+    pub taken : (c : Case) (w : Walked) (out : List ℕ) → c ≡ caseOf block → IsWalk c (stepsOf schedule) w → out ≡ resultBytes c (shown c (w .machine)) → IsReplay block schedule size (record { code = w .code; steps = w .steps; position = 0 }) out
+    taken c w out same u e = subst (λ (k : Case). IsWalk k (stepsOf schedule) w → out ≡ resultBytes k (shown k (w .machine)) → IsReplay block schedule size (record { code = w .code; steps = w .steps; position = 0 }) out) (sym same) made u e
       where
-        made : IsWalk (caseOf block) (stepsOf schedule) w → out ≡ resultBytes (caseOf block) (shown (caseOf block) (w .machine)) → IsReplay block schedule size (record { code = w .code; steps = w .steps }) out
+        made : IsWalk (caseOf block) (stepsOf schedule) w → out ≡ resultBytes (caseOf block) (shown (caseOf block) (w .machine)) → IsReplay block schedule size (record { code = w .code; steps = w .steps; position = 0 }) out
         made v f = record {
           code = v .code ∙ sym (ap (λ (a : Answer). a .code) replayed-is);
           steps = v .steps ∙ sym (ap (λ (a : Answer). a .steps) replayed-is);
           bytes = f ∙ ap (resultBytes (caseOf block)) (v .shows) ∙ sym (ap (λ (a : Answer). a .bytes) replayed-is);
+          position = sym (accepted-position block own-none);
         }
 
 -- At most one answer and one content of the buffer are right.
 pub replay-unique : (block schedule : List ℕ) (size : ℕ) (r r′ : Replayed) (out out′ : List ℕ) → IsReplay block schedule size r out → IsReplay block schedule size r′ out′ → (r ≡ r′) × (out ≡ out′)
 replay-unique block schedule size r r′ out out′ u v =
-    let q = u .code ∙ sym (v .code) in
-    let w = u .steps ∙ sym (v .steps) in
-    ((λ j. record { code = q j; steps = w j }), u .bytes ∙ sym (v .bytes))
+    let code = u .code ∙ sym (v .code) in
+    let steps = u .steps ∙ sym (v .steps) in
+    let position = u .position ∙ sym (v .position) in
+    ((λ j. record { code = code j; steps = steps j; position = position j }), u .bytes ∙ sym (v .bytes))

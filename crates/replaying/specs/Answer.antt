@@ -7,7 +7,7 @@ use lib.Dec.{eqb, ltb}
 use lib.ListN.{length, replicate}
 use Rattle.words.specs.Refusals.{Refusal, _when_, firstOf}
 use Rattle.cases.specs.declared.Case.{Case}
-use Rattle.cases.specs.Block.{refusals, caseOf}
+use Rattle.cases.specs.Block.{refusals, caseOf, readOf}
 use Rattle.runs.specs.Replay.{Replay, replay}
 use Rattle.rules.specs.State.{State, initial}
 use Rattle.rules.specs.Step.{Step, stepsOf}
@@ -42,8 +42,9 @@ answerFrom (suc n) c ts size = record { code = suc n; steps = 0; bytes = replica
 unfoldable pub replayed : List ℕ → List ℕ → ℕ → Answer
 replayed block schedule size = answerFrom (firstOf (replayRefusals block schedule size)) (caseOf block) (stepsOf schedule) size
 
--- The answer r, and the bytes out of the result buffer, are those.
+-- The answer r, and the bytes out of the result buffer, are those; the position is the block's own.
 pub record IsReplay (block schedule : List ℕ) (size : ℕ) (r : Replayed) (out : List ℕ) : Type 0 where
   pub code : r .code ≡ replayed block schedule size .code
   pub steps : r .steps ≡ replayed block schedule size .steps
   pub bytes : out ≡ replayed block schedule size .bytes
+  pub position : r .position ≡ readOf block .position

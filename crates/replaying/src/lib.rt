@@ -18,10 +18,11 @@ ghost use Rattle.machine.specs.Valid.{Valid};
 ghost use Rattle.replaying.specs.Answer.{lengthRefusals, IsReplay};
 ghost use Rattle.replaying.specs.Inner.{IsWalk, tailOf};
 
-// The code, and the number of steps taken.
+// The code, the number of steps taken, and the position that a block's code carries, 0 with any other.
 pub struct Replayed {
     pub code: u8,
     pub steps: usize,
+    pub position: usize,
 }
 
 // The code of the first refused step or 0, the number of steps before it, and the machine then.
@@ -185,7 +186,11 @@ pub fn replay(block: &[u8], schedule: &[u8], result: &mut [u8]) -> Replayed
     let code = refusal(read.code, schedule.len(), result.len());
     if code != 0 {
         records::clear(result);
-        return Replayed { code, steps: 0 };
+        return Replayed {
+            code,
+            steps: 0,
+            position: read.position,
+        };
     }
     let c = read.case;
     let w = walk(c, schedule);
@@ -194,5 +199,6 @@ pub fn replay(block: &[u8], schedule: &[u8], result: &mut [u8]) -> Replayed
     Replayed {
         code: w.code,
         steps: w.steps,
+        position: 0,
     }
 }

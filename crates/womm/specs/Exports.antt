@@ -3,7 +3,7 @@ use mathlib.Core.Path.{_≡_}
 use mathlib.Core.Bool.{Bool, cond}
 use mathlib.Core.List.{List}
 use Prim.Native.Nat.{ℕ}
-use Rattle.cases.specs.Block.{readOf, sealCode, sealed}
+use Rattle.cases.specs.Block.{readOf, sealFault, sealed}
 use Rattle.runs.specs.Listing.{Listed}
 use Rattle.replaying.specs.Answer.{replayed}
 use Rattle.listing.specs.Outcomes.{IsOutcomes}
@@ -12,25 +12,28 @@ use Rattle.listing.specs.Outcomes.{IsOutcomes}
 abbrev pub markOf : Bool → ℕ
 markOf b = cond b 1 0
 
--- A block is read: its code r.
-pub record ReadAs (block : List ℕ) (r : ℕ) : Type 0 where
+-- A block is read: its code r and its position at.
+pub record ReadAs (block : List ℕ) (r at : ℕ) : Type 0 where
   pub code : r ≡ readOf block .code
+  pub position : at ≡ readOf block .position
 
--- A block is written: its code r, and the bytes out that the buffer then holds.
-pub record WrittenAs (block : List ℕ) (r : ℕ) (out : List ℕ) : Type 0 where
-  pub code : r ≡ sealCode block
+-- A block is written: its code r and its position at, and the bytes out that the buffer then holds.
+pub record WrittenAs (block : List ℕ) (r at : ℕ) (out : List ℕ) : Type 0 where
+  pub code : r ≡ sealFault block .code
+  pub position : at ≡ sealFault block .position
   pub bytes : out ≡ sealed block
 
--- A schedule is replayed, with a result buffer of this size: the code r, n steps taken, the result's bytes out.
-pub record ReplayedAs (block schedule : List ℕ) (size r n : ℕ) (out : List ℕ) : Type 0 where
+-- A schedule is replayed, with a result buffer of this size: the code r, n steps taken, the block's position at, the result's bytes out.
+pub record ReplayedAs (block schedule : List ℕ) (size r n at : ℕ) (out : List ℕ) : Type 0 where
   pub code : r ≡ replayed block schedule size .code
   pub steps : n ≡ replayed block schedule size .steps
+  pub position : at ≡ readOf block .position
   pub bytes : out ≡ replayed block schedule size .bytes
 
--- The outcomes are listed, into a buffer of this size: the code r, the count n, the cut mark x, the buffer's bytes out.
-pub record ListedAs (block : List ℕ) (bound size r n x : ℕ) (out : List ℕ) : Type 0 where
+-- The outcomes are listed, into a buffer of this size: the code r, the count n, the cut mark x, the block's position at, the buffer's bytes out.
+pub record ListedAs (block : List ℕ) (bound size r n x at : ℕ) (out : List ℕ) : Type 0 where
   pub answer : Listed
-  pub list : IsOutcomes block bound size answer out
+  pub list : IsOutcomes block bound size answer at out
   pub code : r ≡ answer .code
   pub count : n ≡ answer .count
   pub cut : x ≡ markOf (answer .cut)

@@ -2,39 +2,44 @@
 ghost use lib.ListN.{length};
 ghost use Rattle.womm.specs.Exports.{ReadAs, WrittenAs, ReplayedAs, ListedAs};
 
-// Reads a block: 0 where it holds a case, else the first of codes 1 to 7.
+// Reads a block: 0 where it holds a case, else the first of codes 1 to 7; and the position that the code carries.
 #[no_mangle]
-pub extern "C" fn womm_read(block: &[u8]) -> u32
-    ensures { λ r. ⌜ ReadAs (now (block .entry)) r ⌝ }
+pub extern "C" fn womm_read(block: &[u8], position: &mut usize) -> u32
+    ensures { λ r. ⌜ ReadAs (now (block .entry)) r (now (position .exit)) ⌝ }
 {
     let read = cases::read_case(block);
+    *position = read.position;
     read.code as u32
 }
 
 // Writes a block: the buffer holds a case in bytes 0 to 509, as the block's table lays it out, and gets its check. Refused, it is all zeros.
 #[no_mangle]
-pub extern "C" fn womm_write(block: &mut [u8]) -> u32
-    ensures { λ r. ⌜ WrittenAs (now (block .entry)) r (now (block .exit)) ⌝ }
+pub extern "C" fn womm_write(block: &mut [u8], position: &mut usize) -> u32
+    ensures { λ r. ⌜ WrittenAs (now (block .entry)) r (now (position .exit)) (now (block .exit)) ⌝ }
 {
-    cases::seal(block) as u32
+    let fault = cases::seal(block);
+    *position = fault.position;
+    fault.code as u32
 }
 
-// Replays a schedule: the code, the steps taken, and the result's bytes.
+// Replays a schedule: the code, the steps taken, the block's position, and the result's bytes.
 #[no_mangle]
 pub extern "C" fn womm_replay(
     block: &[u8],
     schedule: &[u8],
     result: &mut [u8],
     steps: &mut usize,
+    position: &mut usize,
 ) -> u32
-    ensures { λ r. ⌜ ReplayedAs (now (block .entry)) (now (schedule .entry)) (length (now (result .entry))) r (now (steps .exit)) (now (result .exit)) ⌝ }
+    ensures { λ r. ⌜ ReplayedAs (now (block .entry)) (now (schedule .entry)) (length (now (result .entry))) r (now (steps .exit)) (now (position .exit)) (now (result .exit)) ⌝ }
 {
     let replayed = replaying::replay(block, schedule, result);
     *steps = replayed.steps;
+    *position = replayed.position;
     replayed.code as u32
 }
 
-// Lists the outcomes within a bound: the code, the count, the cut mark (1 yes, 0 no), and the records' bytes.
+// Lists the outcomes within a bound: the code, the count, the cut mark (1 yes, 0 no), the block's position, and the records' bytes.
 #[no_mangle]
 pub extern "C" fn womm_outcomes(
     block: &[u8],
@@ -42,11 +47,13 @@ pub extern "C" fn womm_outcomes(
     records: &mut [u8],
     count: &mut usize,
     cut: &mut usize,
+    position: &mut usize,
 ) -> u32
-    ensures { λ r. ⌜ ListedAs (now (block .entry)) bound (length (now (records .entry))) r (now (count .exit)) (now (cut .exit)) (now (records .exit)) ⌝ }
+    ensures { λ r. ⌜ ListedAs (now (block .entry)) bound (length (now (records .entry))) r (now (count .exit)) (now (cut .exit)) (now (position .exit)) (now (records .exit)) ⌝ }
 {
     let listed = listing::outcomes(block, bound, records);
     *count = listed.count;
     *cut = listed.cut as usize;
+    *position = listed.position;
     listed.code as u32
 }

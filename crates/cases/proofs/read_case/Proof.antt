@@ -12,16 +12,16 @@ nothing-requires c κs = search needs
 
 returns : tie.Need-returns
 returns c =
-    let at = c .before .before in
-    read-refused (at .before .before .args .block .now) (at .refusal .result) (c .nothing .result) (at .refusal .ensures) (c .before .if1 .taken) (c .nothing .ensures)
+    let at = c .before .before .before in
+    read-refused (at .before .before .args .block .now) (at .refusal .result) (at .refusal .ensures) (c .nothing .result) (c .before .if1 .taken) (c .nothing .ensures)
 
 case-of-requires : tie.Need-case-of-requires
 case-of-requires c κs = search needs
 
 returns-2 : tie.Need-returns-2
 returns-2 c =
-    let at = c .before .before in
-    read-accepted (at .before .before .args .block .now) (at .refusal .result) (c .case-of .result) (at .refusal .ensures) (c .before .if1 .left) (c .case-of .ensures)
+    let at = c .before .before .before in
+    read-accepted (at .before .before .args .block .now) (at .refusal .result) (at .refusal .ensures) (c .case-of .result) (c .before .if1 .left) (c .case-of .ensures)
 
 pub read-case-spec : {M : Type 1} → statement M
 read-case-spec =

@@ -29,7 +29,7 @@ returns-2 : tie.Need-returns-2
 returns-2 c =
     let clear = c .before .before in
     let at = clear .before .before in
-    let judge = at .before in
+    let judge = at .before .before in
     let sized = judge .before .before in
     refused (sized .before .before .args .block .now) (clear .clear2 .last .0) (sized .if1 .left) (judge .judge .result) (judge .judge .ensures) (at .if2 .taken) (clear .clear2 .ensures)
 
@@ -43,7 +43,7 @@ returns-3 : tie.Need-returns-3
 returns-3 c =
     let sign = c .before .before in
     let at = sign .before .before in
-    let judge = at .before in
+    let judge = at .before .before in
     let sized = judge .before .before in
     accepted (sized .before .before .args .block .now) (sign .sign .last .0) (sized .if1 .left) (judge .judge .result) (judge .judge .ensures) (at .if2 .left) (sign .sign .ensures)
 

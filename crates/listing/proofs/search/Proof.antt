@@ -38,7 +38,7 @@ returns c =
     let at-clear = at-start .before .before .before in
     let start = at-clear .before .before .before in
     let a = start .args in
-    whole-unlisted (a .c) (sized (a .c) (start .pre .0)) (a .n) (length (a .out .now)) (at-clear .clear .ensures) (from-start (at-start .start .ensures .0) (at-explore .explore .ensures)) (at-if .if1 .taken) (at-refuse .refuse .ensures)
+    (whole-unlisted (a .c) (sized (a .c) (start .pre .0)) (a .n) (length (a .out .now)) (at-clear .clear .ensures) (from-start (at-start .start .ensures .0) (at-explore .explore .ensures)) (at-if .if1 .taken) (at-refuse .refuse .ensures .0), at-refuse .refuse .ensures .1)
 
 same-length-2 : tie.Need-same-length-2
 same-length-2 c = search needs
@@ -50,7 +50,7 @@ returns-2 c =
     let at-clear = at-start .before .before .before in
     let start = at-clear .before .before .before in
     let a = start .args in
-    whole-listed (a .c) (sized (a .c) (start .pre .0)) (a .n) (length (a .out .now)) (at-clear .clear .ensures) (from-start (at-start .start .ensures .0) (at-explore .explore .ensures)) (c .if1 .left) refl refl refl
+    (whole-listed (a .c) (sized (a .c) (start .pre .0)) (a .n) (length (a .out .now)) (at-clear .clear .ensures) (from-start (at-start .start .ensures .0) (at-explore .explore .ensures)) (c .if1 .left) refl refl refl, refl)
 
 pub search-spec : {M : Type 1} → statement M
 search-spec =

@@ -32,7 +32,7 @@ print-lines-requires c κs =
     let at-outcomes = c .before .before .before .before .before in
     let start = at-outcomes .before .before .before .before in
     let x = at-outcomes .outcomes in
-    let fits = outcomes-room (start .args .block .now) (start .args .bound) _ (answerOf (x .result)) (x .last .1 .1 .0) (x .ensures) (c .before .before .if1 .left) in
+    let fits = outcomes-room (start .args .block .now) (start .args .bound) _ (answerOf (x .result)) (x .result .position) (x .last .1 .1 .0) (x .ensures) (c .before .before .if1 .left) in
     (omega (arith, fits, x .kept .1 .1 .0), start .pre)
 
 returns-2 : tie.Need-returns-2

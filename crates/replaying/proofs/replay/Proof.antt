@@ -1,15 +1,23 @@
-use mathlib.Core.Path.{_∙_, sym, ap, subst}
+use mathlib.Core.Path.{_≡_, _∙_, sym, ap, subst}
 use mathlib.Core.Bool.{cond}
+use mathlib.Core.List.{List}
 use Prim.Native.Nat.{ℕ}
 use lib.Dec.{eqb}
 use lib.ListN.{length}
 use Rattle.words.specs.Refusals.{firstOf}
+use Rattle.cases.specs.declared.CaseRead.{CaseRead}
+use Rattle.cases.specs.Block.{readOf}
+use Rattle.cases.proofs.Told.{read-code, read-position, read-as}
 use Rattle.machine.specs.Fit.{Fit}
 use Rattle.replaying.specs.Answer.{lengthRefusals}
-use Rattle.replaying.proofs.Answers.{read-code, refused, case-is, case-fit, in-fours, right-size, taken}
+use Rattle.replaying.proofs.Answers.{all, own-none, refused, case-fit, in-fours, right-size, taken}
 use borrow.Author.Needs.{needs}
 use Rattle.replaying.proofs.replay.Statement.{statement}
 use Rattle.replaying.proofs.replay.Tie as tie
+
+-- the code that refusal gives is the first of codes 1 to 9
+code-is : (block schedule : List ℕ) (size n : ℕ) (r : CaseRead) → r ≡ readOf block → n ≡ cond (eqb (r .code) 0) (firstOf (lengthRefusals (length schedule) size)) (r .code) → n ≡ all block schedule size
+code-is block schedule size n r read h = h ∙ ap (λ (k : ℕ). cond (eqb k 0) (firstOf (lengthRefusals (length schedule) size)) k) (read-code block read)
 
 read-case-requires : tie.Need-read-case-requires
 read-case-requires c κs = search needs
@@ -25,33 +33,46 @@ same-length c = search needs
 
 returns : tie.Need-returns
 returns c =
-    let a = c .before .before .before .before .before .before .before .before .before .before .args in
-    let q = c .before .before .before .before .before .refusal .ensures ∙ ap (λ (n : ℕ). cond (eqb n 0) (firstOf (lengthRefusals (length (a .schedule .now)) (length (a .result .now)))) n) (read-code (a .block .now) (a .schedule .now) (length (a .result .now)) (c .before .before .before .before .before .before .read-case .result) (c .before .before .before .before .before .before .read-case .ensures)) in
-    refused (a .block .now) (a .schedule .now) (length (a .result .now)) (c .before .before .before .before .before .refusal .result) (c .before .before .clear .last .0) q (c .before .before .before .before .if1 .taken) (c .before .before .clear .ensures)
+    let clear = c .before .before in
+    let then = clear .before .before in
+    let refusal = then .before in
+    let read = refusal .before in
+    let a = read .before .before .before .before .args in
+    let q = code-is (a .block .now) (a .schedule .now) (length (a .result .now)) _ (read .read-case .result) (read .read-case .ensures) (refusal .refusal .ensures) in
+    refused (a .block .now) (a .schedule .now) (length (a .result .now)) (refusal .refusal .result) (read .read-case .result .position) (clear .clear .last .0) q (then .if1 .taken) (read-position (a .block .now) (read .read-case .ensures)) (clear .clear .ensures)
 
 walk-requires : tie.Need-walk-requires
 walk-requires c κs =
-    let a = c .before .before .before .before .before .before .before .args in
-    let q = c .before .before .refusal .ensures ∙ ap (λ (n : ℕ). cond (eqb n 0) (firstOf (lengthRefusals (length (a .schedule .now)) (length (a .result .now)))) n) (read-code (a .block .now) (a .schedule .now) (length (a .result .now)) (c .before .before .before .read-case .result) (c .before .before .before .read-case .ensures)) in
-    let z = sym (c .before .if1 .left) ∙ q in
-    (subst Fit (sym (case-is (a .block .now) (a .schedule .now) (length (a .result .now)) z (c .before .before .before .read-case .result) (c .before .before .before .read-case .ensures))) (case-fit (a .block .now) (a .schedule .now) (length (a .result .now)) z), in-fours (a .block .now) (a .schedule .now) (length (a .result .now)) z)
+    let else = c in
+    let refusal = else .before .before in
+    let read = refusal .before in
+    let a = read .before .before .before .before .args in
+    let z = sym (else .before .if1 .left) ∙ code-is (a .block .now) (a .schedule .now) (length (a .result .now)) _ (read .read-case .result) (read .read-case .ensures) (refusal .refusal .ensures) in
+    (subst Fit (sym (read-as (a .block .now) (read .read-case .ensures) (own-none (a .block .now) (a .schedule .now) (length (a .result .now)) z))) (case-fit (a .block .now) (a .schedule .now) (length (a .result .now)) z), in-fours (a .block .now) (a .schedule .now) (length (a .result .now)) z)
 
 show-requires : tie.Need-show-requires
 show-requires c κs =
-    let a = c .before .before .before .before .before .before .before .before .before .before .args in
-    let q = c .before .before .before .before .before .refusal .ensures ∙ ap (λ (n : ℕ). cond (eqb n 0) (firstOf (lengthRefusals (length (a .schedule .now)) (length (a .result .now)))) n) (read-code (a .block .now) (a .schedule .now) (length (a .result .now)) (c .before .before .before .before .before .before .read-case .result) (c .before .before .before .before .before .before .read-case .ensures)) in
-    let z = sym (c .before .before .before .before .if1 .left) ∙ q in
-    (c .before .before .walk .ensures .valid, right-size (a .block .now) (a .schedule .now) (length (a .result .now)) z)
+    let walk = c .before .before in
+    let else = walk .before .before in
+    let refusal = else .before in
+    let read = refusal .before in
+    let a = read .before .before .before .before .args in
+    let z = sym (else .if1 .left) ∙ code-is (a .block .now) (a .schedule .now) (length (a .result .now)) _ (read .read-case .result) (read .read-case .ensures) (refusal .refusal .ensures) in
+    (walk .walk .ensures .valid, right-size (a .block .now) (a .schedule .now) (length (a .result .now)) z)
 
 same-length-2 : tie.Need-same-length-2
 same-length-2 c = search needs
 
 returns-2 : tie.Need-returns-2
 returns-2 c =
-    let a = c .before .before .before .before .before .before .before .before .before .before .before .before .before .args in
-    let q = c .before .before .before .before .before .before .before .before .refusal .ensures ∙ ap (λ (n : ℕ). cond (eqb n 0) (firstOf (lengthRefusals (length (a .schedule .now)) (length (a .result .now)))) n) (read-code (a .block .now) (a .schedule .now) (length (a .result .now)) (c .before .before .before .before .before .before .before .before .before .read-case .result) (c .before .before .before .before .before .before .before .before .before .read-case .ensures)) in
-    let z = sym (c .before .before .before .before .before .before .before .if1 .left) ∙ q in
-    taken (a .block .now) (a .schedule .now) (length (a .result .now)) z (c .before .before .before .before .before .before .before .before .before .read-case .result .case) (c .before .before .before .before .before .walk .result) (c .before .before .show .last .1 .1 .0) (case-is (a .block .now) (a .schedule .now) (length (a .result .now)) z (c .before .before .before .before .before .before .before .before .before .read-case .result) (c .before .before .before .before .before .before .before .before .before .read-case .ensures)) (c .before .before .before .before .before .walk .ensures) (c .before .before .show .ensures)
+    let show = c .before .before in
+    let walk = show .before .before .before in
+    let else = walk .before .before in
+    let refusal = else .before in
+    let read = refusal .before in
+    let a = read .before .before .before .before .args in
+    let z = sym (else .if1 .left) ∙ code-is (a .block .now) (a .schedule .now) (length (a .result .now)) _ (read .read-case .result) (read .read-case .ensures) (refusal .refusal .ensures) in
+    taken (a .block .now) (a .schedule .now) (length (a .result .now)) z (read .read-case .result .case) (walk .walk .result) (show .show .last .1 .1 .0) (read-as (a .block .now) (read .read-case .ensures) (own-none (a .block .now) (a .schedule .now) (length (a .result .now)) z)) (walk .walk .ensures) (show .show .ensures)
 
 pub replay-spec : {M : Type 1} → statement M
 replay-spec =

@@ -11,7 +11,9 @@ cast-result : tie.Need-cast-result
 cast-result c = search needs
 
 returns : tie.Need-returns
-returns c = record { code = ap (λ (r : CaseRead). r .code) (c .before .read-case .ensures) }
+returns c =
+    let read = c .before .read-case .ensures in
+    record { code = ap (λ (r : CaseRead). r .code) read; position = ap (λ (r : CaseRead). r .position) read }
 
 pub womm-read-spec : {M : Type 1} → statement M
 womm-read-spec = tie.close (tie.spec read-case-requires cast-result returns)

@@ -1,7 +1,7 @@
 use Rattle.cases.proofs.Lowest.{bad-3, bad-4, bad-5, bad-6, bad-7, last-code}
 use mathlib.Core.Path.{ap, sym, _∙_}
 use Prim.Native.Nat.{ℕ}
-use Rattle.cases.specs.Faults.{bad}
+use Rattle.cases.specs.Block.{bad}
 use borrow.Author.Needs.{needs}
 use Rattle.cases.proofs.faults.bad.Statement.{statement}
 use Rattle.cases.proofs.faults.bad.Tie as tie

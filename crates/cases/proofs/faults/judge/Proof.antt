@@ -2,8 +2,8 @@
 use Prim.Native.Nat.{_≤_, _-_}
 use native.Mathlib.Numerals.{add-one}
 use native.Mathlib.Omega.{arith}
-use Rattle.cases.specs.Faults.{lowest, bad}
-use Rattle.cases.proofs.Lowest.{Passed, passed-start, passed-more, fault-found, fault-none}
+use Rattle.cases.specs.Block.{lowest, bad}
+use Rattle.cases.proofs.Lowest.{Passed, passed-start, passed-more, judge-found, judge-none}
 use borrow.Author.Needs.{needs}
 use Rattle.cases.proofs.faults.judge.Statement.{statement}
 use Rattle.cases.proofs.faults.judge.Tie as tie
@@ -23,7 +23,7 @@ lowest-requires c κs = search needs
 returns : tie.Need-returns Inv-loop μ-loop
 returns c =
     let at = c .before .before .before in
-    fault-found (at .before .before .args .block .now) (at .loop .code) (c .before .lowest .result) (at .loop .inv .0) (omega arith) (at .loop .inv .2) (c .before .lowest .ensures) (c .if1 .taken)
+    judge-found (at .before .before .args .block .now) (at .loop .code) (c .before .lowest .result) (at .loop .inv .0) (omega arith) (at .loop .inv .2) (c .before .lowest .ensures) (c .if1 .taken)
 
 add-code : tie.Need-add-code Inv-loop μ-loop
 add-code c = search needs
@@ -39,7 +39,7 @@ loop-again c =
     (search needs, search needs, rw (add-one (at .loop .code)) (passed-more s (at .loop .code) (at .loop .inv .2) h))
 
 returns-2 : tie.Need-returns-2 Inv-loop μ-loop
-returns-2 c = let at = c .before in fault-none (at .before .before .args .block .now) (at .loop .code) (c .loop-test .left) (at .loop .inv .1) (at .loop .inv .2)
+returns-2 c = let at = c .before in judge-none (at .before .before .args .block .now) (at .loop .code) (c .loop-test .left) (at .loop .inv .1) (at .loop .inv .2)
 
 pub judge-spec : {M : Type 1} → statement M
 judge-spec =

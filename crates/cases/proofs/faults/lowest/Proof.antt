@@ -4,7 +4,7 @@ use mathlib.Core.Bool.{false}
 use Prim.Native.Nat.{ℕ, _≤_, _<_, _-_}
 use native.Mathlib.Omega.{arith}
 use borrow.Author.Count.{below-none, below-more}
-use Rattle.cases.specs.Faults.{bad}
+use Rattle.cases.specs.Block.{bad}
 use Rattle.cases.proofs.Lowest.{lowest-is, none-lowest}
 use borrow.Author.Needs.{needs}
 use Rattle.cases.proofs.faults.lowest.Statement.{statement}

@@ -1,5 +1,6 @@
-use mathlib.Core.Path.{sym, _∙_}
-use Rattle.cases.proofs.Decoding.{not-512, not-check, past-check, fault-code}
+use mathlib.Core.Path.{sym, ap, _∙_}
+use Rattle.cases.specs.Block.{faultOf}
+use Rattle.cases.proofs.Decoding.{not-512, not-check, past-check}
 use borrow.Author.Needs.{needs}
 use Rattle.cases.proofs.reading.refusal.Statement.{statement}
 use Rattle.cases.proofs.reading.refusal.Tie as tie
@@ -25,7 +26,7 @@ returns-3 : tie.Need-returns-3
 returns-3 c =
     let at = c .before .before .before .before in
     let s = at .before .before .args .block .now in
-    fault-code s (c .judge .result) (c .judge .ensures) ∙ past-check s (at .if1 .left) (sym (c .before .before .before .word .ensures .0) ∙ c .before .if2 .left ∙ c .before .before .check .ensures .0)
+    c .judge .ensures ∙ ap (faultOf s) (past-check s (at .if1 .left) (sym (c .before .before .before .word .ensures .0) ∙ c .before .if2 .left ∙ c .before .before .check .ensures .0))
 
 pub refusal-spec : {M : Type 1} → statement M
 refusal-spec =

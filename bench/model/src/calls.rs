@@ -1,0 +1,67 @@
+//! The library's calls over plain bytes, and what they answer. With every code that names no byte of the block the
+//! position is 0.
+
+use crate::Refusal;
+
+/// The answer of reading or writing a block.
+#[derive(Clone, Copy, Debug, PartialEq, Eq)]
+pub struct Coded {
+    pub code: u32,
+    pub position: u32,
+}
+
+/// The answer of a listing; the records stand in the lent buffer.
+#[derive(Clone, Copy, Debug, PartialEq, Eq)]
+pub struct Listed {
+    pub code: u32,
+    pub count: u32,
+    pub cut: bool,
+    pub position: u32,
+}
+
+/// The answer of a replay; registers, counters and queues stand in the lent buffer.
+#[derive(Clone, Copy, Debug, PartialEq, Eq)]
+pub struct Replayed {
+    pub code: u32,
+    pub steps: u32,
+    pub position: u32,
+}
+
+impl Coded {
+    /// The answer to a block that was accepted or refused.
+    pub fn of(judged: Result<(), Refusal>) -> Coded {
+        match judged {
+            Ok(()) => Coded { code: 0, position: 0 },
+            Err(refusal) => Coded { code: refusal.code(), position: refusal.position },
+        }
+    }
+}
+
+impl Listed {
+    pub fn refused(refusal: Refusal) -> Listed {
+        Listed { code: refusal.code(), count: 0, cut: false, position: refusal.position }
+    }
+}
+
+impl Replayed {
+    /// Refused before the first step.
+    pub fn refused(refusal: Refusal) -> Replayed {
+        Replayed { code: refusal.code(), steps: 0, position: refusal.position }
+    }
+}
+
+/// Judges a block, and puts the check behind a buffer that holds one but for it.
+pub trait Codec {
+    fn read(&self, block: &[u8]) -> Coded;
+    fn write(&self, block: &mut [u8]) -> Coded;
+}
+
+/// Lists outcomes.
+pub trait Lister {
+    fn outcomes(&self, block: &[u8], bound: u32, records: &mut [u8]) -> Listed;
+}
+
+/// Replays a schedule.
+pub trait Replayer {
+    fn replay(&self, block: &[u8], schedule: &[u8], result: &mut [u8]) -> Replayed;
+}
