@@ -24,6 +24,8 @@ pub struct Listed {
 pub struct Replayed {
     pub code: u32,
     pub steps: u32,
+    /// Where the refused step's instruction stands in its program, for codes 23 to 25 and 27 to 32.
+    pub place: Option<u8>,
     pub position: u32,
 }
 
@@ -46,7 +48,7 @@ impl Listed {
 impl Replayed {
     /// Refused before the first step.
     pub fn refused(refusal: Refusal) -> Replayed {
-        Replayed { code: refusal.code(), steps: 0, position: refusal.position }
+        Replayed { code: refusal.code(), steps: 0, place: None, position: refusal.position }
     }
 }
 

@@ -65,6 +65,12 @@ impl Instr {
         (0..6).filter(|&at| bytes[at] != named[at] || register(at) || label && at == 4).collect()
     }
 
+    /// The word for its op.
+    pub fn word(self) -> &'static str {
+        let op = usize::from(self.bytes()[0]);
+        ["read", "write", "set", "add", "sub", "eq", "branch", "goto", "acquire", "release"][op - 1]
+    }
+
     /// The registers read.
     pub fn inputs(self) -> impl Iterator<Item = u8> {
         let registers = match self {

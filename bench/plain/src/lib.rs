@@ -88,9 +88,9 @@ impl Replayer for Plain {
             Err(refusal) => return Replayed::refused(refusal),
         };
         let mut machine = Machine::new(&case);
-        let (code, steps) = run(&mut machine, schedule);
+        let replayed = run(&mut machine, schedule);
         result.copy_from_slice(&machine.ending().bytes());
-        Replayed { code, steps, position: 0 }
+        replayed
     }
 }
 
@@ -105,20 +105,21 @@ fn replayable(block: &[u8], schedule: &[u8], room: usize) -> Result<Case, Refusa
     Ok(case)
 }
 
-/// Takes steps up to the first refused one; its code and the number of steps before it.
-fn run(machine: &mut Machine, schedule: &[u8]) -> (u32, u32) {
+/// Takes steps up to the first refused one.
+fn run(machine: &mut Machine, schedule: &[u8]) -> Replayed {
     let mut steps = 0;
     for bytes in schedule.chunks(4) {
+        let stopped = |reason: Reason, place| Replayed { code: reason.code(), steps, place, position: 0 };
         let step = match *bytes {
             [0, processor, 0, 0] => Step::Issue { processor },
             [1, processor, action, source] => Step::Commit { processor, action, source },
-            _ => return (Reason::BadStep.code(), steps),
+            _ => return stopped(Reason::BadStep, None),
         };
         if let Err(reason) = machine.check(step) {
-            return (reason.code(), steps);
+            return stopped(reason, machine.place(step, reason));
         }
         machine.take(step);
         steps += 1;
     }
-    (0, steps)
+    Replayed { code: 0, steps, place: None, position: 0 }
 }

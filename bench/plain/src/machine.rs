@@ -107,6 +107,16 @@ impl<'a> Machine<'a> {
         }
     }
 
+    /// Where the instruction stands that a refused step would issue, or whose action it would commit. A step with
+    /// bad numbers, one past a branch or the end, and a commit of nothing have none.
+    pub fn place(&self, step: Step, reason: Reason) -> Option<u8> {
+        match (step, reason) {
+            (_, Reason::BadStep | Reason::PlaceUndefined | Reason::AtEnd | Reason::NoSuchAction) => None,
+            (Step::Issue { processor }, _) => self.places[usize::from(processor)],
+            (Step::Commit { action, .. }, _) => Some(self.actions[usize::from(action)].place),
+        }
+    }
+
     fn check_issue(&self, p: usize) -> Result<(), Reason> {
         let place = self.places[p].ok_or(Reason::PlaceUndefined)?;
         let instr = self.program(p).get(usize::from(place)).ok_or(Reason::AtEnd)?;

@@ -20,6 +20,8 @@ pub struct Tally {
     replays: BTreeMap<u32, u32>,
     long: u32,
     whole: u32,
+    /// The places that refused steps named.
+    places: BTreeSet<u8>,
     /// The lengths of the record buffers, schedules and result buffers.
     records: BTreeSet<usize>,
     schedules: BTreeSet<usize>,
@@ -42,6 +44,7 @@ impl Tally {
         *self.replays.entry(replayed.code).or_default() += 1;
         self.long += u32::from(replayed.steps >= 20);
         self.whole += u32::from(replayed.steps == 96);
+        self.places.extend(replayed.place);
         self.schedules.insert(input.schedule.len());
         self.results.insert(input.room);
     }
@@ -57,7 +60,7 @@ impl Tally {
         self.replays.get(&code).copied().unwrap_or(0)
     }
 
-    /// A third of the lists with two or more outcomes, half the replays of 20 steps or more, and every code.
+    /// A third of the lists with two or more outcomes, half the replays of 20 steps or more, every code and every place.
     pub fn deep(&self) -> bool {
         let codes = Reason::all().map(Reason::code);
         let missing = |code: &u32| !self.lists.contains_key(code) && !self.replays.contains_key(code);
@@ -65,6 +68,7 @@ impl Tally {
             && 2 * self.long >= self.replays.values().sum()
             && codes.filter(missing).count() == 0
             && (1..=7).all(|code| self.lists.contains_key(&code) && self.replays.contains_key(&code))
+            && (0..12).all(|place| self.places.contains(&place))
             && self.lengths()
             && self.positions()
     }

@@ -16,7 +16,7 @@ pub use stored::{outcomes_prints, replay_prints, stored};
 
 use std::collections::BTreeSet;
 
-use model::{Case, CaseBuilder, Instr, Outcome};
+use model::{Case, CaseBuilder, Instr, Outcome, Replayed};
 
 /// A register of a processor.
 pub type Register = (usize, usize);
@@ -48,7 +48,7 @@ impl Shape {
     }
 }
 
-/// A schedule with the code, the steps and the position of its replay.
+/// A schedule with the code, the steps, the place and the position of its replay.
 #[derive(Clone, Debug)]
 pub struct Run {
     pub name: &'static str,
@@ -56,7 +56,15 @@ pub struct Run {
     pub schedule: Vec<u8>,
     pub code: u32,
     pub steps: u32,
+    pub place: Option<u8>,
     pub position: u32,
+}
+
+impl Run {
+    /// What a replay of it answers.
+    pub fn replayed(&self) -> Replayed {
+        Replayed { code: self.code, steps: self.steps, place: self.place, position: self.position }
+    }
 }
 
 /// As many processors as programs, with the usual presets.

@@ -23,7 +23,14 @@ fn take(processor: u8, action: u8, source: u8) -> Step {
 fn run(name: &'static str, case: CaseBuilder, steps: &[Step], code: u32) -> Run {
     let case = case.build().expect("a sound case");
     let taken = steps.len() as u32 - u32::from(code != 0);
-    Run { name, block: case.block().to_vec(), schedule: schedule(steps), code, steps: taken, position: 0 }
+    Run { name, block: case.block().to_vec(), schedule: schedule(steps), code, steps: taken, place: None, position: 0 }
+}
+
+impl Run {
+    /// With the place of the refused step's instruction.
+    fn at(self, place: u8) -> Run {
+        Run { place: Some(place), ..self }
+    }
 }
 
 /// A run found by the enumerator that ends with these registers.
@@ -42,7 +49,8 @@ fn alone(program: &[Instr]) -> CaseBuilder {
 
 /// Every run, those of document 01 and source 000 first.
 pub fn runs() -> Vec<Run> {
-    [scope(), bad_steps(), refused_issues(), refused_commits(), behind_the_lock(), hidden(), refused_inputs()].concat()
+    [scope(), bad_steps(), refused_issues(), refused_commits(), behind_the_lock(), hidden(), second_round(), refused_inputs()]
+        .concat()
 }
 
 fn scope() -> Vec<Run> {
@@ -54,10 +62,10 @@ fn scope() -> Vec<Run> {
         found("000-figure-2", figure_2(), &[((1, 2), 1), ((1, 3), 2), ((2, 2), 2), ((2, 3), 1)]),
         found("000-figure-8", figure_8(), &[((0, 2), 1), ((1, 2), 1)]),
         run("000-figure-8-trace", figure_8(), &trace, 0),
-        run("goto-0-49th", alone(&[goto(0)]), &[issue(0); 49], 23),
+        run("goto-0-49th", alone(&[goto(0)]), &[issue(0); 49], 23).at(0),
         run("acquire-acquire-release", alone(&[acquire(0), acquire(0), release(0)]), &finishes, 0),
-        run("acquire-out-of-turn", alone(&[acquire(0), acquire(0)]), &second_first, 28),
-        run("acquire-M", alone(&[acquire(1)]), &[issue(0), commit(0, 0)], 30),
+        run("acquire-out-of-turn", alone(&[acquire(0), acquire(0)]), &second_first, 28).at(1),
+        run("acquire-M", alone(&[acquire(1)]), &[issue(0), commit(0, 0)], 30).at(0),
     ]
 }
 
@@ -75,9 +83,9 @@ fn refused_issues() -> Vec<Run> {
     vec![
         run("issue-after-branch", alone(&[branch(0, 0)]), &[issue(0), issue(0)], 21),
         run("issue-at-end", alone(&[]), &[issue(0)], 22),
-        run("address-undefined", alone(&[read(2, 3)]), &[issue(0)], 24),
-        run("address-queued", alone(&[set(3, 0), write(3, 1)]), &[issue(0), issue(0)], 24),
-        run("address-M", alone(&[write(1, 1)]), &[issue(0)], 25),
+        run("address-undefined", alone(&[read(2, 3)]), &[issue(0)], 24).at(0),
+        run("address-queued", alone(&[set(3, 0), write(3, 1)]), &[issue(0), issue(0)], 24).at(1),
+        run("address-M", alone(&[write(1, 1)]), &[issue(0)], 25).at(0),
     ]
 }
 
@@ -88,14 +96,14 @@ fn refused_commits() -> Vec<Run> {
         run("commit-not-issued", alone(&[goto(1)]), &[commit(0, 0)], 26),
         run("commit-of-another", two(&[goto(1)], &[]), &[issue(0), commit(1, 0)], 26),
         run("commit-twice", alone(&[goto(1)]), &[issue(0), commit(0, 0), commit(0, 0)], 26),
-        run("source-of-a-write", alone(&[write(0, 1)]), &[issue(0), take(0, 0, 1)], 27),
-        run("read-past-write", alone(&[write(0, 1), read(2, 0)]), &[issue(0), issue(0), take(0, 1, 0)], 28),
-        run("read-past-acquire", alone(&[acquire(0), read(2, 0)]), &[issue(0), issue(0), take(0, 1, 0)], 28),
-        run("release-past-goto", alone(&[goto(1), release(0)]), &[issue(0), issue(0), commit(0, 1)], 28),
+        run("source-of-a-write", alone(&[write(0, 1)]), &[issue(0), take(0, 0, 1)], 27).at(0),
+        run("read-past-write", alone(&[write(0, 1), read(2, 0)]), &[issue(0), issue(0), take(0, 1, 0)], 28).at(1),
+        run("read-past-acquire", alone(&[acquire(0), read(2, 0)]), &[issue(0), issue(0), take(0, 1, 0)], 28).at(1),
+        run("release-past-goto", alone(&[goto(1), release(0)]), &[issue(0), issue(0), commit(0, 1)], 28).at(1),
         run("write-past-read", alone(&[read(2, 0), write(0, 1)]), &[issue(0), issue(0), commit(0, 1)], 0),
-        run("value-undefined", alone(&[write(0, 2)]), &[issue(0), commit(0, 0)], 29),
-        run("release-of-free", alone(&[release(0)]), &[issue(0), commit(0, 0)], 31),
-        run("acquire-of-held", two(&[acquire(0)], &[acquire(0)]), &held, 31),
+        run("value-undefined", alone(&[write(0, 2)]), &[issue(0), commit(0, 0)], 29).at(0),
+        run("release-of-free", alone(&[release(0)]), &[issue(0), commit(0, 0)], 31).at(0),
+        run("acquire-of-held", two(&[acquire(0)], &[acquire(0)]), &held, 31).at(0),
     ]
 }
 
@@ -108,14 +116,14 @@ fn behind_the_lock() -> Vec<Run> {
     let two = usual(2, &[&[acquire(0), acquire(1), branch(1, 3)]]);
     let undefined = alone(&[acquire(0), branch(2, 0), set(2, 1)]);
     vec![
-        run("branch-past-acquire", branches.clone(), &past, 28),
-        run("goto-past-acquire", gotos.clone(), &past, 28),
-        run("branch-past-second-acquire", two, &past_the_second, 28),
+        run("branch-past-acquire", branches.clone(), &past, 28).at(1),
+        run("goto-past-acquire", gotos.clone(), &past, 28).at(1),
+        run("branch-past-second-acquire", two, &past_the_second, 28).at(2),
         run("goto-past-release", alone(&[acquire(0), release(0), goto(3)]), &past_the_second, 0),
         run("branch-after-acquire", branches.clone(), &after, 0),
         run("goto-after-acquire", gotos, &after, 0),
-        run("branch-source-past-acquire", branches, &[issue(0), issue(0), take(0, 1, 1)], 27),
-        run("branch-undefined-past-acquire", undefined, &past, 28),
+        run("branch-source-past-acquire", branches, &[issue(0), issue(0), take(0, 1, 1)], 27).at(1),
+        run("branch-undefined-past-acquire", undefined, &past, 28).at(1),
     ]
 }
 
@@ -127,25 +135,40 @@ fn hidden() -> Vec<Run> {
     let locked = usual(2, &[&[acquire(1), write(0, 1), release(1)], &[acquire(1), read(2, 0)]]);
     let own = alone(&[write(0, 1), read(2, 0)]);
     vec![
-        run("source-without-value", pair.clone(), &[issue(0), issue(1), take(1, 1, 8)], 32),
-        run("source-not-issued", pair.clone(), &[issue(1), take(1, 0, 9)], 32),
-        run("source-a-read", pair.clone(), &[issue(1), take(1, 0, 8)], 32),
-        run("source-elsewhere", pair.clone(), &[issue(1), take(1, 0, 1)], 32),
+        run("source-without-value", pair.clone(), &[issue(0), issue(1), take(1, 1, 8)], 32).at(0),
+        run("source-not-issued", pair.clone(), &[issue(1), take(1, 0, 9)], 32).at(0),
+        run("source-a-read", pair.clone(), &[issue(1), take(1, 0, 8)], 32).at(0),
+        run("source-elsewhere", pair.clone(), &[issue(1), take(1, 0, 1)], 32).at(0),
         run("source-old", pair, &[issue(0), commit(0, 0), issue(1), take(1, 1, 0)], 0),
-        run("source-own-later", alone(&[read(2, 0), write(0, 1)]), &[issue(0), issue(0), commit(0, 1), take(0, 0, 9)], 32),
-        run("source-overwritten", own, &[issue(0), commit(0, 0), issue(0), take(0, 1, 0)], 32),
-        run("acquire-issued-early", locked, &late, 32),
+        run("source-own-later", alone(&[read(2, 0), write(0, 1)]), &[issue(0), issue(0), commit(0, 1), take(0, 0, 9)], 32).at(0),
+        run("source-overwritten", own, &[issue(0), commit(0, 0), issue(0), take(0, 1, 0)], 32).at(1),
+        run("acquire-issued-early", locked, &late, 32).at(1),
+    ]
+}
+
+/// Request 06: in the second round of a loop, place and action number differ.
+fn second_round() -> Vec<Run> {
+    let round = |rest: &[Step]| [&[issue(0), issue(0), issue(0)], rest].concat();
+    let (writes, reads) = (alone(&[write(0, 1), goto(0)]), alone(&[read(2, 0), goto(0)]));
+    let moves = alone(&[goto(1), write(2, 1), set(2, 1), goto(1)]).preset(0, 2, 0);
+    let addressed = [issue(0), issue(0), issue(0), commit(0, 2), issue(0), issue(0)];
+    vec![
+        run("place-27", writes, &round(&[take(0, 2, 1)]), 27).at(0),
+        run("place-28", alone(&[acquire(0), goto(0)]), &round(&[commit(0, 2)]), 28).at(0),
+        run("place-32", reads.clone(), &round(&[take(0, 2, 9)]), 32).at(0),
+        run("place-26", reads, &round(&[commit(0, 3)]), 26),
+        run("place-25", moves, &addressed, 25).at(1),
     ]
 }
 
 /// Refusals before the first step: a block's whatever the schedule is, then the schedule's.
 fn refused_inputs() -> Vec<Run> {
     let sound = alone(&[goto(1)]).build().expect("a sound case").block();
-    let given = |name, schedule| Run { name, block: sound.to_vec(), schedule, code: 8, steps: 0, position: 0 };
+    let given = |name, schedule| Run { name, block: sound.to_vec(), schedule, code: 8, steps: 0, place: None, position: 0 };
     let refused = damaged().into_iter().map(|block| {
         // Bytes that follow a short block would be taken as its own.
         let schedule = if block.code == 1 { vec![] } else { vec![9] };
-        Run { name: block.name, block: block.block, schedule, code: block.code, steps: 0, position: block.position }
+        Run { name: block.name, block: block.block, schedule, code: block.code, steps: 0, place: None, position: block.position }
     });
     refused.chain([given("schedule-piece", vec![0, 0, 0, 0, 1]), given("schedule-long", vec![0; 388])]).collect()
 }

@@ -14,7 +14,7 @@ const USUAL: u8 = 255;
 /// Every stored file: its path and its bytes.
 pub fn stored() -> Vec<(String, Vec<u8>)> {
     let replays = runs().into_iter().map(|run| {
-        let prints = replay_line(Replayed { code: run.code, steps: run.steps, position: run.position });
+        let prints = replay_line(run.replayed());
         (format!("replay/{}", run.name), [run.block, run.schedule].concat(), prints)
     });
     let outcomes = list_inputs().into_iter().map(|(name, input)| {

@@ -42,7 +42,7 @@ fn plain_finds_the_same() {
 #[test]
 fn runs_end_as_expected() {
     for run in runs() {
-        let expected = Replayed { code: run.code, steps: run.steps, position: run.position };
+        let expected = run.replayed();
         let (mut result, mut other) = ([7; 104], [9; 104]);
         assert_eq!(States.replay(&run.block, &run.schedule, &mut result), expected, "{}", run.name);
         assert_eq!(Plain.replay(&run.block, &run.schedule, &mut other), expected, "{}", run.name);
@@ -123,7 +123,10 @@ fn what_a_refusal_leaves() {
     assert_eq!(result[96..], [255, 0, 0, 0, 1, 0, 0, 0]);
     for length in [0, 103, 105] {
         let mut result = vec![7; length];
-        assert_eq!(States.replay(&run.block, &run.schedule, &mut result), Replayed { code: 9, steps: 0, position: 0 });
+        assert_eq!(
+            States.replay(&run.block, &run.schedule, &mut result),
+            Replayed { code: 9, steps: 0, place: None, position: 0 }
+        );
         assert_eq!(result, vec![0; length]);
     }
 }

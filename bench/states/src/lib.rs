@@ -60,9 +60,11 @@ impl Replayer for States {
             Err(refusal) => return Replayed::refused(refusal),
         };
         let mut run = Run::new(&case);
-        let stopped = schedule.chunks_exact(4).find_map(|step| run.take([step[0], step[1], step[2], step[3]]).err());
+        let mut steps = schedule.chunks_exact(4).map(|step| [step[0], step[1], step[2], step[3]]);
+        let stopped = steps.find_map(|step| run.take(step).err().map(|reason| (reason, step)));
         result.copy_from_slice(&run.ending().bytes());
-        Replayed { code: stopped.map_or(0, Reason::code), steps: run.steps(), position: 0 }
+        let place = stopped.and_then(|(reason, step)| run.place(step, reason));
+        Replayed { code: stopped.map_or(0, |(reason, _)| reason.code()), steps: run.steps(), place, position: 0 }
     }
 }
 

@@ -55,6 +55,16 @@ impl<'a> Run<'a> {
         Ok(())
     }
 
+    /// Request 06: the place of the instruction that a step refused now is of, where its code has one.
+    pub fn place(&self, step: [u8; 4], reason: Reason) -> Option<u8> {
+        let [_, p, action, _] = step;
+        match reason.code() {
+            23..=25 => self.state.place(p),
+            27..=32 => Some(self.state.action(self.issued[usize::from(action)]).place),
+            _ => None,
+        }
+    }
+
     /// Every step that would be accepted next.
     pub fn accepted(&self) -> Vec<Step> {
         self.state.moves(self.case).into_iter().map(|(taken, _)| self.step(taken)).collect()

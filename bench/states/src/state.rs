@@ -20,7 +20,7 @@ type Name = Option<u8>;
 #[derive(Clone, PartialEq, Eq, Hash)]
 pub struct Action {
     pub instr: Instr,
-    place: u8,
+    pub place: u8,
     /// Who assigned the registers it reads, in the order of `Instr::inputs`.
     inputs: [Name; 2],
     /// The location of a read or write.
@@ -67,7 +67,12 @@ impl State {
         &self.locals[usize::from(p)].actions
     }
 
-    fn action(&self, (p, i): Id) -> &Action {
+    /// The place counter of a processor.
+    pub fn place(&self, p: u8) -> Option<u8> {
+        self.locals[usize::from(p)].place
+    }
+
+    pub fn action(&self, (p, i): Id) -> &Action {
         &self.actions(p)[usize::from(i)]
     }
 

@@ -14,6 +14,7 @@ extern "C" {
         result: *mut u8,
         result_length: usize,
         steps: *mut usize,
+        place: *mut usize,
         position: *mut usize,
     ) -> u32;
 
@@ -32,6 +33,7 @@ extern "C" {
 /// The numbers that a replay hands back.
 pub struct ReplayNumbers<'a> {
     pub steps: &'a mut usize,
+    pub place: &'a mut usize,
     pub position: &'a mut usize,
 }
 
@@ -56,16 +58,17 @@ pub fn write(block: &mut [u8], position: &mut usize) -> u32 {
 }
 
 /// Replays a schedule; gives the code.
-pub fn replay(block: &[u8], schedule: &[u8], result: &mut [u8], given: ReplayNumbers) -> u32 {
-    let ReplayNumbers { steps, position } = given;
+pub fn replay(block: &[u8], schedule: &[u8], result: &mut [u8], numbers: ReplayNumbers) -> u32 {
+    let ReplayNumbers { steps, place, position } = numbers;
+    let (given, given_length) = (schedule.as_ptr(), schedule.len());
     let (bytes, length) = (result.as_mut_ptr(), result.len());
     // SAFETY: as above; `result` and the numbers are lent to this call alone.
-    unsafe { womm_replay(block.as_ptr(), block.len(), schedule.as_ptr(), schedule.len(), bytes, length, steps, position) }
+    unsafe { womm_replay(block.as_ptr(), block.len(), given, given_length, bytes, length, steps, place, position) }
 }
 
 /// Lists outcomes; gives the code.
-pub fn outcomes(block: &[u8], bound: u32, records: &mut [u8], given: ListNumbers) -> u32 {
-    let ListNumbers { count, cut, position } = given;
+pub fn outcomes(block: &[u8], bound: u32, records: &mut [u8], numbers: ListNumbers) -> u32 {
+    let ListNumbers { count, cut, position } = numbers;
     let (bytes, length) = (records.as_mut_ptr(), records.len());
     // SAFETY: as above; `records` and the numbers are lent to this call alone.
     unsafe { womm_outcomes(block.as_ptr(), block.len(), bound, bytes, length, count, cut, position) }

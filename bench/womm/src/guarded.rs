@@ -3,7 +3,7 @@ use std::hint::black_box;
 use model::{Codec, Coded, Listed, Lister, Replayed, Replayer};
 
 use crate::ffi::{self, ListNumbers, ReplayNumbers};
-use crate::{mark, short};
+use crate::{mark, place_given, short};
 
 /// The library with everything it is lent standing between canaries. After each call the canaries stand,
 /// the inputs are what they were, and every number has been given.
@@ -92,12 +92,13 @@ impl Lister for Guarded {
 impl Replayer for Guarded {
     fn replay(&self, block: &[u8], schedule: &[u8], result: &mut [u8]) -> Replayed {
         let (held, steps_held, mut lent) = (Fenced::new(block), Fenced::new(schedule), Fenced::new(result));
-        let [mut steps, mut position] = std::array::from_fn(|_| FencedNumber::new());
-        let given = ReplayNumbers { steps: steps.lent(), position: position.lent() };
+        let [mut steps, mut place, mut position] = std::array::from_fn(|_| FencedNumber::new());
+        let given = ReplayNumbers { steps: steps.lent(), place: place.lent(), position: position.lent() };
         let code = ffi::replay(held.inner(), steps_held.inner(), lent.inner_mut(), given);
         assert_eq!(black_box(&held).opened("block"), block, "the block was written");
         assert_eq!(black_box(&steps_held).opened("schedule"), schedule, "the schedule was written");
         result.copy_from_slice(black_box(&lent).opened("result"));
-        Replayed { code, steps: short(steps.opened("steps")), position: short(position.opened("position")) }
+        let (steps, position) = (short(steps.opened("steps")), short(position.opened("position")));
+        Replayed { code, steps, place: place_given(place.opened("place")), position }
     }
 }

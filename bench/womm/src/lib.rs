@@ -4,10 +4,12 @@
 
 mod ffi;
 mod guarded;
+mod stop;
 
 pub use guarded::Guarded;
 pub use model::{ops, Case, CaseBuilder, Codec, Coded, Ending, Instr, Listed, Lister, Outcome};
 pub use model::{Reason, Refusal, Replayed, Replayer, Step};
+pub use stop::{Place, Stop};
 
 use ffi::{ListNumbers, ReplayNumbers};
 use model::{schedule, ENDING, RECORD};
@@ -40,10 +42,10 @@ impl Lister for Library {
 
 impl Replayer for Library {
     fn replay(&self, block: &[u8], schedule: &[u8], result: &mut [u8]) -> Replayed {
-        let [mut steps, mut position] = [0; 2];
-        let given = ReplayNumbers { steps: &mut steps, position: &mut position };
+        let [mut steps, mut place, mut position] = [0; 3];
+        let given = ReplayNumbers { steps: &mut steps, place: &mut place, position: &mut position };
         let code = ffi::replay(block, schedule, result, given);
-        Replayed { code, steps: short(steps), position: short(position) }
+        Replayed { code, steps: short(steps), place: place_given(place), position: short(position) }
     }
 }
 
@@ -70,7 +72,7 @@ pub struct Listing {
 #[derive(Clone, Debug, PartialEq, Eq)]
 pub struct Replay {
     pub steps: u32,
-    pub stopped: Option<Reason>,
+    pub stopped: Option<Stop>,
     pub ending: Ending,
 }
 
@@ -93,6 +95,8 @@ pub fn replay(case: &Case, steps: &[Step]) -> Result<Replay, Refusal> {
     if stopped.is_some_and(|reason| reason < Reason::BadStep) {
         accepted(replayed.code, replayed.position)?;
     }
+    let at = replayed.place.map(|place| Place::of(case, steps[replayed.steps as usize], place));
+    let stopped = stopped.map(|reason| Stop { reason, at });
     Ok(Replay { steps: replayed.steps, stopped, ending: Ending::read(&result) })
 }
 
@@ -104,6 +108,12 @@ fn accepted(code: u32, position: u32) -> Result<(), Refusal> {
 /// A number that the library gives: records, steps or a position.
 fn short(count: usize) -> u32 {
     count.try_into().expect("no answer of document 01 is so large")
+}
+
+/// A place that the library gives; 255 is none.
+fn place_given(number: usize) -> Option<u8> {
+    let place = number.try_into().expect("no place is so large");
+    Some(place).filter(|&place| place != 255)
 }
 
 /// A mark that the library gives: 1 is yes, 0 is no, and there is no other.

@@ -1,6 +1,6 @@
 //! The library against the shapes: what is expected of them, and what the enumerator of states says.
 
-use model::{Codec, Coded, Listed, Lister, Replayed, Replayer, RECORD};
+use model::{Codec, Coded, Listed, Lister, Replayer, RECORD};
 use shapes::{damaged, lists, runs, Shape};
 use states::States;
 use womm::{Guarded, Outcome};
@@ -116,7 +116,7 @@ fn runs_end_as_expected() {
     for run in runs() {
         let (mut result, mut expected) = ([7; 104], [9; 104]);
         let replayed = Guarded.replay(&run.block, &run.schedule, &mut result);
-        assert_eq!(replayed, Replayed { code: run.code, steps: run.steps, position: run.position }, "{}", run.name);
+        assert_eq!(replayed, run.replayed(), "{}", run.name);
         States.replay(&run.block, &run.schedule, &mut expected);
         assert_eq!(result, expected, "{}", run.name);
     }

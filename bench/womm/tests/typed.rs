@@ -1,16 +1,27 @@
 //! The typed calls.
 
-use womm::{Reason, Refusal, Step};
+use womm::{Reason, Refusal, Step, Stop};
 
 #[test]
 fn a_typed_replay() {
     let case = shapes::usual(1, &[&[womm::ops::read(2, 0)]]).build().unwrap();
     let steps = [Step::Issue { processor: 0 }, Step::Commit { processor: 0, action: 0, source: 0 }];
     let replay = womm::replay(&case, &[steps[0], steps[1], steps[0]]).unwrap();
-    assert_eq!((replay.steps, replay.stopped), (2, Some(Reason::AtEnd)));
+    assert_eq!((replay.steps, replay.stopped), (2, Some(Stop { reason: Reason::AtEnd, at: None })));
     assert_eq!(replay.ending.outcome.registers[0][..3], [Some(0), Some(1), Some(0)]);
     assert_eq!((replay.ending.places[0], replay.ending.queues[0]), (Some(1), 0));
     assert_eq!(womm::replay(&case, &[steps[0]; 97]), Err(Reason::ScheduleLength.into()));
+}
+
+#[test]
+fn a_stop_names_its_instruction() {
+    let case = shapes::locked_message().build().unwrap();
+    let issue = Step::Issue { processor: 1 };
+    let early = Step::Commit { processor: 1, action: 2, source: 0 };
+    let replay = womm::replay(&case, &[issue, issue, issue, early]).unwrap();
+    let stop = replay.stopped.unwrap();
+    assert_eq!((replay.steps, stop.reason), (3, Reason::HeldBack));
+    assert_eq!(stop.to_string(), "held back by the table: processor 1, instruction 2, read");
 }
 
 #[test]

@@ -63,13 +63,13 @@ module _ (block schedule : List ℕ) (size : ℕ) where
   codes-are = append-first (refusals block) (lengthRefusals (length schedule) size) refl
 
   -- refused before the first step
-  pub refused : (n at : ℕ) (out : List ℕ) → n ≡ all → (n ≡ 0 → ⊥) → at ≡ readOf block .position → out ≡ replicate size 0 → IsReplay block schedule size (record { code = n; steps = 0; position = at }) out
+  pub refused : (n at : ℕ) (out : List ℕ) → n ≡ all → (n ≡ 0 → ⊥) → at ≡ readOf block .position → out ≡ replicate size 0 → IsReplay block schedule size (record { code = n; steps = 0; place = 255; position = at }) out
   unfolding replayed
   refused n at out h z q e =
       let w = ap (λ (i : ℕ). answerFrom i (caseOf block) (stepsOf schedule) size) (codes-are ∙ sym h) ∙ from n z in
-      record { code = sym (ap (λ (a : Answer). a .code) w); steps = sym (ap (λ (a : Answer). a .steps) w); bytes = e ∙ sym (ap (λ (a : Answer). a .bytes) w); position = q }
+      record { code = sym (ap (λ (a : Answer). a .code) w); steps = sym (ap (λ (a : Answer). a .steps) w); place = sym (ap (λ (a : Answer). a .place) w); bytes = e ∙ sym (ap (λ (a : Answer). a .bytes) w); position = q }
     where
-      from : (k : ℕ) → (k ≡ 0 → ⊥) → answerFrom k (caseOf block) (stepsOf schedule) size ≡ record { code = k; steps = 0; bytes = replicate size 0 }
+      from : (k : ℕ) → (k ≡ 0 → ⊥) → answerFrom k (caseOf block) (stepsOf schedule) size ≡ record { code = k; steps = 0; place = 255; bytes = replicate size 0 }
       from zero z = absurd (z refl)
       from (suc k) z = refl
 
@@ -97,17 +97,18 @@ module _ (block schedule : List ℕ) (size : ℕ) where
     pub right-size : size ≡ 104
     right-size = eqb-true size 104 (not-false _ (first-none 8 _ _ (tests .1) .0))
 
-    replayed-is : replayed block schedule size ≡ answerOf (caseOf block) (replay (womm (caseOf block)) (initial (caseOf block)) (stepsOf schedule))
+    replayed-is : replayed block schedule size ≡ answerOf (caseOf block) (stepsOf schedule) (replay (womm (caseOf block)) (initial (caseOf block)) (stepsOf schedule))
     unfolding replayed
     replayed-is = ap (λ (n : ℕ). answerFrom n (caseOf block) (stepsOf schedule) size) (codes-are ∙ sym zero-code)
 
-    pub taken : (c : Case) (w : Walked) (out : List ℕ) → c ≡ caseOf block → IsWalk c (stepsOf schedule) w → out ≡ resultBytes c (shown c (w .machine)) → IsReplay block schedule size (record { code = w .code; steps = w .steps; position = 0 }) out
-    taken c w out same u e = subst (λ (k : Case). IsWalk k (stepsOf schedule) w → out ≡ resultBytes k (shown k (w .machine)) → IsReplay block schedule size (record { code = w .code; steps = w .steps; position = 0 }) out) (sym same) made u e
+    pub taken : (c : Case) (w : Walked) (out : List ℕ) → c ≡ caseOf block → IsWalk c (stepsOf schedule) w → out ≡ resultBytes c (shown c (w .machine)) → IsReplay block schedule size (record { code = w .code; steps = w .steps; place = w .place; position = 0 }) out
+    taken c w out same u e = subst (λ (k : Case). IsWalk k (stepsOf schedule) w → out ≡ resultBytes k (shown k (w .machine)) → IsReplay block schedule size (record { code = w .code; steps = w .steps; place = w .place; position = 0 }) out) (sym same) made u e
       where
-        made : IsWalk (caseOf block) (stepsOf schedule) w → out ≡ resultBytes (caseOf block) (shown (caseOf block) (w .machine)) → IsReplay block schedule size (record { code = w .code; steps = w .steps; position = 0 }) out
+        made : IsWalk (caseOf block) (stepsOf schedule) w → out ≡ resultBytes (caseOf block) (shown (caseOf block) (w .machine)) → IsReplay block schedule size (record { code = w .code; steps = w .steps; place = w .place; position = 0 }) out
         made v f = record {
           code = v .code ∙ sym (ap (λ (a : Answer). a .code) replayed-is);
           steps = v .steps ∙ sym (ap (λ (a : Answer). a .steps) replayed-is);
+          place = v .place ∙ sym (ap (λ (a : Answer). a .place) replayed-is);
           bytes = f ∙ ap (resultBytes (caseOf block)) (v .shows) ∙ sym (ap (λ (a : Answer). a .bytes) replayed-is);
           position = sym (accepted-position block own-none);
         }
@@ -117,5 +118,6 @@ pub replay-unique : (block schedule : List ℕ) (size : ℕ) (r r′ : Replayed)
 replay-unique block schedule size r r′ out out′ u v =
     let code = u .code ∙ sym (v .code) in
     let steps = u .steps ∙ sym (v .steps) in
+    let place = u .place ∙ sym (v .place) in
     let position = u .position ∙ sym (v .position) in
-    ((λ j. record { code = code j; steps = steps j; position = position j }), u .bytes ∙ sym (v .bytes))
+    ((λ j. record { code = code j; steps = steps j; place = place j; position = position j }), u .bytes ∙ sym (v .bytes))

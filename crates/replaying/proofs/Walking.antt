@@ -9,8 +9,9 @@ use lib.Seq.{drop-cons, drop-length}
 use Rattle.cases.specs.declared.Case.{Case}
 use Rattle.runs.specs.Replay.{Replay, resumed, replay}
 use Rattle.rules.specs.State.{State, initial}
-use Rattle.rules.specs.Step.{Step, stepOf, stepsOf, stepCode, after}
+use Rattle.rules.specs.Step.{Step, neither, stepOf, stepsOf, stepCode, stepPlace, replayPlace, after}
 use Rattle.rules.specs.Womm.{womm}
+use Rattle.rules.proofs.Named.{place-neither}
 use Rattle.machine.specs.declared.Machine.{Machine}
 use Rattle.machine.specs.Shown.{shown}
 use Rattle.machine.specs.Valid.{Valid}
@@ -58,6 +59,17 @@ module _ (sch : List ℕ) where
   steps-end : (k : ℕ) → 4 * k ≡ length sch → stepsOf (drop (4 * k) sch) ≡ []
   steps-end k h = ap stepsOf (ap (λ (n : ℕ). drop n sch) h ∙ drop-length sch)
 
+  -- the step at j from 4k on is step k + j of the schedule
+  step-later : (k j : ℕ) → 4 * k ≤ length sch → getD (stepsOf sch) (k + j) neither ≡ getD (stepsOf (drop (4 * k) sch)) j neither
+  step-later zero j h = let q : 0 + j ≡ j = zero-add j in ap (λ (n : ℕ). getD (stepsOf sch) n neither) q
+  step-later (suc k) j h =
+      let q : suc k + j ≡ k + suc j = omega arith in
+      let n : 4 * (k + 1) ≡ 4 * suc k = omega arith in
+      ap (λ (i : ℕ). getD (stepsOf sch) i neither) q
+      ∙ step-later k (suc j) (omega arith)
+      ∙ ap (λ (l : List Step). getD l (suc j) neither) (steps-next k (omega arith))
+      ∙ ap (λ (i : ℕ). getD (stepsOf (drop i sch)) j neither) n
+
   module _ (c : Case) where
     abbrev whole : Replay State
     whole = replay (womm c) (initial c) (stepsOf sch)
@@ -85,7 +97,7 @@ module _ (sch : List ℕ) where
           ∙ (λ j. record { code = w .code; taken = q j; state = w .state })
           ∙ ap (λ (s : State). later (k + 1) (replay (womm c) s ts)) (sym (u .accepted z))
 
-      pub reached-stop : (r .code ≡ 0 → ⊥) → IsWalk c (stepsOf sch) (record { code = r .code; steps = k; machine = r .machine })
+      pub reached-stop : (r .code ≡ 0 → ⊥) → IsWalk c (stepsOf sch) (record { code = r .code; steps = k; place = r .place; machine = r .machine })
       reached-stop z =
           let t = stepAt k in
           let ts = stepsOf (drop (4 * (k + 1)) sch) in
@@ -94,6 +106,10 @@ module _ (sch : List ℕ) where
           record {
             code = u .code ∙ sym (ap (λ (x : Replay State). x .code) e);
             steps = sym (ap (λ (x : Replay State). x .taken) e ∙ add-zero k);
+            place =
+                u .place
+                ∙ ap (stepPlace c (shown c m)) (sym (step-later k 0 (omega arith) ∙ ap (λ (l : List Step). getD l 0 neither) (steps-next k inside)))
+                ∙ sym (ap (replayPlace c (stepsOf sch)) e);
             shows = ap (shown c) (u .refused (positive (r .code) z)) ∙ sym (ap (λ (x : Replay State). x .state) e);
             valid = u .valid;
           }
@@ -101,13 +117,18 @@ module _ (sch : List ℕ) where
           positive : (n : ℕ) → (n ≡ 0 → ⊥) → 0 < n
           positive n z = omega arith
 
-    pub reached-end : (k : ℕ) (m : Machine) → 4 * k ≡ length sch → Valid c m → Reached k m → IsWalk c (stepsOf sch) (record { code = 0; steps = k; machine = m })
+    pub reached-end : (k : ℕ) (m : Machine) → 4 * k ≡ length sch → Valid c m → Reached k m → IsWalk c (stepsOf sch) (record { code = 0; steps = k; place = 255; machine = m })
     unfolding replay
     reached-end k m h v at =
         let e : whole ≡ later k (replay (womm c) (shown c m) []) = at ∙ ap (λ (l : List Step). later k (replay (womm c) (shown c m) l)) (steps-end k h) in
         record {
           code = sym (ap (λ (x : Replay State). x .code) e);
           steps = sym (ap (λ (x : Replay State). x .taken) e ∙ add-zero k);
+          place =
+              sym
+              (ap (replayPlace c (stepsOf sch)) e
+              ∙ ap (stepPlace c (shown c m)) (step-later k 0 (omega arith) ∙ ap (λ (l : List Step). getD l 0 neither) (steps-end k h))
+              ∙ place-neither c (shown c m));
           shows = sym (ap (λ (x : Replay State). x .state) e);
           valid = v;
         }

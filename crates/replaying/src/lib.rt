@@ -18,17 +18,20 @@ ghost use Rattle.machine.specs.Valid.{Valid};
 ghost use Rattle.replaying.specs.Answer.{lengthRefusals, IsReplay};
 ghost use Rattle.replaying.specs.Inner.{IsWalk, tailOf};
 
-// The code, the number of steps taken, and the position that a block's code carries, 0 with any other.
+// The code, the number of steps taken, the place of the instruction that the code names, else 255, and the position that a block's code carries,
+// 0 with any other.
 pub struct Replayed {
     pub code: u8,
     pub steps: usize,
+    pub place: u8,
     pub position: usize,
 }
 
-// The code of the first refused step or 0, the number of steps before it, and the machine then.
+// The code of the first refused step or 0, the number of steps before it, its place, and the machine then.
 pub struct Walked {
     pub code: u8,
     pub steps: usize,
+    pub place: u8,
     pub machine: Machine,
 }
 
@@ -55,6 +58,7 @@ fn walk(c: Case, schedule: &[u8]) -> Walked
             return Walked {
                 code,
                 steps,
+                place: s.place,
                 machine: next,
             };
         }
@@ -64,6 +68,7 @@ fn walk(c: Case, schedule: &[u8]) -> Walked
     Walked {
         code: 0,
         steps,
+        place: 255,
         machine: m,
     }
 }
@@ -189,6 +194,7 @@ pub fn replay(block: &[u8], schedule: &[u8], result: &mut [u8]) -> Replayed
         return Replayed {
             code,
             steps: 0,
+            place: 255,
             position: read.position,
         };
     }
@@ -199,6 +205,7 @@ pub fn replay(block: &[u8], schedule: &[u8], result: &mut [u8]) -> Replayed
     Replayed {
         code: w.code,
         steps: w.steps,
+        place: w.place,
         position: 0,
     }
 }

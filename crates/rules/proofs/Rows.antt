@@ -15,7 +15,7 @@ use Rattle.runs.proofs.Search.{search, cuts}
 use Rattle.rules.specs.State.{initial}
 use Rattle.rules.specs.Result.{finished, registerOf}
 use Rattle.rules.specs.Womm.{womm}
-use Rattle.rules.specs.Claims.{Claim, lists, replays, finishes, leaves, orders, reached, codeOf, caseIn, Says, Holds, Every}
+use Rattle.rules.specs.Claims.{Claim, lists, replays, names, finishes, leaves, orders, reached, codeOf, placeAt, caseIn, Says, Holds, Every}
 use Rattle.rules.proofs.Quick.{quick, quick-sound}
 use Rattle.rules.proofs.Candidates.{candidates, outcomes-found, cut-found}
 
@@ -67,6 +67,7 @@ outcomes c n = search (womm c) (candidates c) n (initial c)
 abbrev saying : Claim → Bool
 saying (lists c n rs cut) = ascending rs && (within rs (outcomes c n) && (within (outcomes c n) rs && Bool·beq cut (cuts (womm c) (candidates c) n (initial c))))
 saying (replays c ts taken code) = eqb (replay (womm c) (initial c) ts .taken) taken && eqb (codeOf c ts) code
+saying (names c ts code place) = eqb (codeOf c ts) code && eqb (placeAt c ts) place
 saying (finishes c ts) = eqb (codeOf c ts) 0 && finished c (reached c ts)
 saying (leaves c ts p k v) = eqb (codeOf c ts) 0 && sameValue (registerOf c (reached c ts) p k) v
 saying (orders c ts l a b r) = eqb (codeOf c ts) 0 && Bool·beq (reached c ts .orders l a b) r
@@ -88,6 +89,7 @@ says (lists c n rs cut) h =
       (λ k. cut-found c n .0 (sym e ∙ k), λ k. e ∙ cut-found c n .1 k),
     )
 says (replays c ts taken code) h = let w = and-both _ _ h in (eqb-true _ _ (w .0), eqb-true _ _ (w .1))
+says (names c ts code place) h = let w = and-both _ _ h in (eqb-true _ _ (w .0), eqb-true _ _ (w .1))
 says (finishes c ts) h = let w = and-both _ _ h in (eqb-true _ _ (w .0), w .1)
 says (leaves c ts p k v) h = let w = and-both _ _ h in (eqb-true _ _ (w .0), sameValue-eq _ _ (w .1))
 says (orders c ts l a b r) h = let w = and-both _ _ h in (eqb-true _ _ (w .0), beq-eq _ _ (w .1))

@@ -11,7 +11,7 @@ use Rattle.runs.specs.Replay.{replay}
 use Rattle.runs.specs.Outcome.{Outcome, Cut}
 use Rattle.runs.specs.Listing.{RecordsOf}
 use Rattle.rules.specs.State.{State, initial}
-use Rattle.rules.specs.Step.{Step}
+use Rattle.rules.specs.Step.{Step, replayPlace}
 use Rattle.rules.specs.Result.{finished, registerOf}
 use Rattle.rules.specs.Womm.{womm}
 
@@ -21,6 +21,8 @@ pub data Claim : Type 0 where
   lists : Case → ℕ → List (List ℕ) → Bool → Claim
   -- the case, the schedule, the steps taken and the code
   replays : Case → List Step → ℕ → ℕ → Claim
+  -- the case, the schedule, the code and the place
+  names : Case → List Step → ℕ → ℕ → Claim
   -- the case and a schedule that finishes it
   finishes : Case → List Step → Claim
   -- the case, an accepted schedule, a processor, a register and what it then holds
@@ -36,10 +38,15 @@ reached c ts = replay (womm c) (initial c) ts .state
 abbrev pub codeOf : Case → List Step → ℕ
 codeOf c ts = replay (womm c) (initial c) ts .code
 
+-- The place that it returns.
+abbrev pub placeAt : Case → List Step → ℕ
+placeAt c ts = replayPlace c ts (replay (womm c) (initial c) ts)
+
 -- The case of a row.
 abbrev pub caseIn : Claim → Case
 caseIn (lists c n rs cut) = c
 caseIn (replays c ts taken code) = c
+caseIn (names c ts code place) = c
 caseIn (finishes c ts) = c
 caseIn (leaves c ts p k v) = c
 caseIn (orders c ts l a b r) = c
@@ -48,6 +55,7 @@ caseIn (orders c ts l a b r) = c
 abbrev pub Says : Claim → Type 0
 Says (lists c n rs cut) = RecordsOf (Outcome (womm c) n) rs × ((cut ≡ true) ↔ Cut (womm c) n)
 Says (replays c ts taken code) = (replay (womm c) (initial c) ts .taken ≡ taken) × (codeOf c ts ≡ code)
+Says (names c ts code place) = (codeOf c ts ≡ code) × (placeAt c ts ≡ place)
 Says (finishes c ts) = (codeOf c ts ≡ 0) × (finished c (reached c ts) ≡ true)
 Says (leaves c ts p k v) = (codeOf c ts ≡ 0) × (registerOf c (reached c ts) p k ≡ v)
 Says (orders c ts l a b r) = (codeOf c ts ≡ 0) × (reached c ts .orders l a b ≡ r)

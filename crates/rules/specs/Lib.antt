@@ -11,3 +11,4 @@ pub mod Claims
 pub mod Shapes
 pub mod Readings
 pub mod Codes
+pub mod Places

@@ -1,5 +1,5 @@
 -- The step that four bytes say. Assumes nothing.
-use mathlib.Core.Path.{_≡_, refl, ap, subst}
+use mathlib.Core.Path.{_≡_, refl, sym, ap}
 use mathlib.Core.Logic.{⊎-elim}
 use mathlib.Core.Bool.{Bool, true, false, cond, _&&_}
 use mathlib.Core.List.{_∷_}
@@ -15,7 +15,6 @@ use Rattle.rules.specs.State.{State}
 use Rattle.rules.specs.Issue.{issueRefusals}
 use Rattle.rules.specs.Commit.{commitRefusals}
 use Rattle.rules.specs.Step.{Step, issue, commit, neither, stepOf, stepCode}
-use Rattle.rules.proofs.Accepted.{neither-no}
 
 and-no : (b : Bool) → (b && false) ≡ false
 and-no true = refl
@@ -59,24 +58,31 @@ module _ (c : Case) (s : State) where
   pub code-absent : (kind p k e : ℕ) → c .procs ≤ p → 20 ≡ stepCode c s (stepOf kind p k e)
   code-absent kind p k e h = absent (eqb kind 0 && eqb k 0 && eqb e 0) (eqb kind 1) p k e h
 
-  -- an accepted step of kind 0 is an issue, any other a commit
-  pub issue-accepted : (kind p k e : ℕ) → kind ≡ 0 → stepCode c s (stepOf kind p k e) ≡ 0 → stepOf kind p k e ≡ issue p
-  issue-accepted kind p k e h go = ⊎-elim yes no (decide (eqb k 0 && eqb e 0))
+  -- a step of kind 0 that does not get 20 is an issue, any other a commit
+  pub issue-formed : (kind p k e : ℕ) → kind ≡ 0 → (stepCode c s (stepOf kind p k e) ≡ 20 → ⊥) → stepOf kind p k e ≡ issue p
+  issue-formed kind p k e h go = ⊎-elim yes no (decide (eqb k 0 && eqb e 0))
     where
       yes : (eqb k 0 && eqb e 0) ≡ true → stepOf kind p k e ≡ issue p
       yes q = rw (h, q)
 
       no : (eqb k 0 && eqb e 0) ≡ false → stepOf kind p k e ≡ issue p
-      no q = absurd (neither-no c s (subst (λ (t : Step). stepCode c s t ≡ 0) (rw (h, q)) go))
+      no q = absurd (go (sym (code-neither (stepOf kind p k e) (rw (h, q)))))
 
-  pub commit-accepted : (kind p k e : ℕ) → (kind ≡ 0 → ⊥) → stepCode c s (stepOf kind p k e) ≡ 0 → stepOf kind p k e ≡ commit p k e
-  commit-accepted kind p k e h go = ⊎-elim yes no (decide (eqb kind 1))
+  pub commit-formed : (kind p k e : ℕ) → (kind ≡ 0 → ⊥) → (stepCode c s (stepOf kind p k e) ≡ 20 → ⊥) → stepOf kind p k e ≡ commit p k e
+  commit-formed kind p k e h go = ⊎-elim yes no (decide (eqb kind 1))
     where
       yes : eqb kind 1 ≡ true → stepOf kind p k e ≡ commit p k e
       yes q = rw (ne-eqb kind 0 h, q)
 
       no : eqb kind 1 ≡ false → stepOf kind p k e ≡ commit p k e
-      no q = absurd (neither-no c s (subst (λ (t : Step). stepCode c s t ≡ 0) (rw (ne-eqb kind 0 h, q)) go))
+      no q = absurd (go (sym (code-neither (stepOf kind p k e) (rw (ne-eqb kind 0 h, q)))))
+
+  -- the same of an accepted step
+  pub issue-accepted : (kind p k e : ℕ) → kind ≡ 0 → stepCode c s (stepOf kind p k e) ≡ 0 → stepOf kind p k e ≡ issue p
+  issue-accepted kind p k e h go = issue-formed kind p k e h (λ q. omega (arith, q, go))
+
+  pub commit-accepted : (kind p k e : ℕ) → (kind ≡ 0 → ⊥) → stepCode c s (stepOf kind p k e) ≡ 0 → stepOf kind p k e ≡ commit p k e
+  commit-accepted kind p k e h go = commit-formed kind p k e h (λ q. omega (arith, q, go))
 
 pub one : (n : ℕ) → n ≤ 1 → (n ≡ 0 → ⊥) → n ≡ 1
 one n h q = omega arith

@@ -1,15 +1,16 @@
-// A step, from its four bytes: the code that it gets, and the machine after it.
+// A step, from its four bytes: the code that it gets, the place that goes with it, and the machine after it.
 use cases::Case;
 use machine::Machine;
 ghost use mathlib.Core.Path.{_≡_};
 ghost use Prim.Native.Nat.{_<_};
-ghost use Rattle.rules.specs.Step.{stepOf, stepCode, after};
+ghost use Rattle.rules.specs.Step.{stepOf, stepCode, naming, stepPlace, after};
 ghost use Rattle.machine.specs.Shown.{shown};
 ghost use Rattle.machine.specs.Valid.{Valid};
 ghost use Rattle.stepping.specs.Taken.{Taken};
 
 pub struct Stepped {
     pub code: u8,
+    pub place: u8,
     pub machine: Machine,
 }
 
@@ -41,6 +42,28 @@ fn code_of(c: Case, m: Machine, kind: u8, proc: u8, action: u8, source: u8) -> u
     committing::commit_code(c, acts, &m.rows, &m.holders, issued, p, k, e)
 }
 
+// Whether a code names an instruction.
+pub fn names(code: u8) -> bool
+    ensures { λ r. ⌜ r ≡ naming code ⌝ }
+{
+    ((23 <= code) & (code <= 25)) | ((27 <= code) & (code <= 32))
+}
+
+// The place that goes with the code of a step: of an issue the place counter, of a commit the action's; 255 where the code names none.
+pub fn place_of(c: Case, m: Machine, kind: u8, proc: u8, action: u8, source: u8, code: u8) -> u8
+    requires { ⌜ Valid c m × (code ≡ stepCode c (shown c m) (stepOf kind proc action source)) ⌝ }
+    ensures { λ r. ⌜ r ≡ stepPlace c (shown c m) (stepOf kind proc action source) ⌝ }
+{
+    if names(code) {
+        if kind == 0 {
+            return m.places[proc as usize];
+        }
+        let e = m.acts[action as usize];
+        return e.place;
+    }
+    255
+}
+
 // The machine after a step that nothing refuses.
 fn taken(c: Case, m: Machine, kind: u8, proc: u8, action: u8, source: u8) -> Machine
     requires { ⌜ Valid c m × (stepCode c (shown c m) (stepOf kind proc action source) ≡ 0) ⌝ }
@@ -62,10 +85,15 @@ pub fn step(c: Case, m: Machine, kind: u8, proc: u8, action: u8, source: u8) -> 
 {
     let code = code_of(c, m, kind, proc, action, source);
     if code != 0 {
-        return Stepped { code, machine: m };
+        return Stepped {
+            code,
+            place: place_of(c, m, kind, proc, action, source, code),
+            machine: m,
+        };
     }
     Stepped {
         code: 0,
+        place: 255,
         machine: taken(c, m, kind, proc, action, source),
     }
 }

@@ -12,8 +12,8 @@ one-read block r r′ at at′ a b = (a .code ∙ sym (b .code), a .position ∙
 pub one-write : (block : List ℕ) (r r′ at at′ : ℕ) (out out′ : List ℕ) → WrittenAs block r at out → WrittenAs block r′ at′ out′ → (r ≡ r′) × (at ≡ at′) × (out ≡ out′)
 one-write block r r′ at at′ out out′ a b = (a .code ∙ sym (b .code), a .position ∙ sym (b .position), a .bytes ∙ sym (b .bytes))
 
-pub one-replay : (block schedule : List ℕ) (size r r′ n n′ at at′ : ℕ) (out out′ : List ℕ) → ReplayedAs block schedule size r n at out → ReplayedAs block schedule size r′ n′ at′ out′ → (r ≡ r′) × (n ≡ n′) × (at ≡ at′) × (out ≡ out′)
-one-replay block schedule size r r′ n n′ at at′ out out′ a b = (a .code ∙ sym (b .code), a .steps ∙ sym (b .steps), a .position ∙ sym (b .position), a .bytes ∙ sym (b .bytes))
+pub one-replay : (block schedule : List ℕ) (size r r′ n n′ i i′ at at′ : ℕ) (out out′ : List ℕ) → ReplayedAs block schedule size r n i at out → ReplayedAs block schedule size r′ n′ i′ at′ out′ → (r ≡ r′) × (n ≡ n′) × (i ≡ i′) × (at ≡ at′) × (out ≡ out′)
+one-replay block schedule size r r′ n n′ i i′ at at′ out out′ a b = (a .code ∙ sym (b .code), a .steps ∙ sym (b .steps), a .place ∙ sym (b .place), a .position ∙ sym (b .position), a .bytes ∙ sym (b .bytes))
 
 pub one-list : (block : List ℕ) (bound size r r′ n n′ x x′ at at′ : ℕ) (out out′ : List ℕ) → ListedAs block bound size r n x at out → ListedAs block bound size r′ n′ x′ at′ out′ → (r ≡ r′) × (n ≡ n′) × (x ≡ x′) × (at ≡ at′) × (out ≡ out′)
 one-list block bound size r r′ n n′ x x′ at at′ out out′ a b =

@@ -23,10 +23,12 @@ pub record WrittenAs (block : List ℕ) (r at : ℕ) (out : List ℕ) : Type 0 w
   pub position : at ≡ sealFault block .position
   pub bytes : out ≡ sealed block
 
--- A schedule is replayed, with a result buffer of this size: the code r, n steps taken, the block's position at, the result's bytes out.
-pub record ReplayedAs (block schedule : List ℕ) (size r n at : ℕ) (out : List ℕ) : Type 0 where
+-- A schedule is replayed, with a result buffer of this size: the code r, n steps taken, the place i that the code names, the block's position at,
+-- the result's bytes out.
+pub record ReplayedAs (block schedule : List ℕ) (size r n i at : ℕ) (out : List ℕ) : Type 0 where
   pub code : r ≡ replayed block schedule size .code
   pub steps : n ≡ replayed block schedule size .steps
+  pub place : i ≡ replayed block schedule size .place
   pub position : at ≡ readOf block .position
   pub bytes : out ≡ replayed block schedule size .bytes
 

@@ -22,19 +22,22 @@ pub extern "C" fn womm_write(block: &mut [u8], position: &mut usize) -> u32
     fault.code as u32
 }
 
-// Replays a schedule: the code, the steps taken, the block's position, and the result's bytes.
+// Replays a schedule: the code, the steps taken, the place of the instruction that the code names (else 255), the block's position, and the
+// result's bytes.
 #[no_mangle]
 pub extern "C" fn womm_replay(
     block: &[u8],
     schedule: &[u8],
     result: &mut [u8],
     steps: &mut usize,
+    place: &mut usize,
     position: &mut usize,
 ) -> u32
-    ensures { λ r. ⌜ ReplayedAs (now (block .entry)) (now (schedule .entry)) (length (now (result .entry))) r (now (steps .exit)) (now (position .exit)) (now (result .exit)) ⌝ }
+    ensures { λ r. ⌜ ReplayedAs (now (block .entry)) (now (schedule .entry)) (length (now (result .entry))) r (now (steps .exit)) (now (place .exit)) (now (position .exit)) (now (result .exit)) ⌝ }
 {
     let replayed = replaying::replay(block, schedule, result);
     *steps = replayed.steps;
+    *place = replayed.place as usize;
     *position = replayed.position;
     replayed.code as u32
 }

@@ -1,5 +1,6 @@
 use mathlib.Core.Path.{_∙_, sym, refl}
 use native.Mathlib.Omega.{arith}
+use Rattle.stepping.proofs.Places.{no-place}
 use borrow.Author.Needs.{needs}
 use Rattle.stepping.proofs.step.Statement.{statement}
 use Rattle.stepping.proofs.step.Tie as tie
@@ -7,14 +8,27 @@ use Rattle.stepping.proofs.step.Tie as tie
 code-of-requires : tie.Need-code-of-requires
 code-of-requires c κs = search needs
 
+place-of-requires : tie.Need-place-of-requires
+place-of-requires c κs = (c .before .before .pre, c .before .code-of .ensures)
+
 returns : tie.Need-returns
-returns c = record { code = c .before .code-of .ensures; accepted = λ z. absurd (c .if1 .taken z); refused = λ z. refl; valid = c .before .before .pre }
+returns c = record { code = c .before .before .code-of .ensures; place = c .place-of .ensures; accepted = λ z. absurd (c .before .if1 .taken z); refused = λ z. refl; valid = c .before .before .before .pre }
 
 taken-requires : tie.Need-taken-requires
 taken-requires c κs = (c .before .before .pre, sym (c .before .code-of .ensures) ∙ c .if1 .left)
 
 returns-2 : tie.Need-returns-2
-returns-2 c = record { code = sym (c .before .if1 .left) ∙ c .before .before .code-of .ensures; accepted = λ z. c .taken .ensures .0; refused = λ z. absurd (omega arith); valid = c .taken .ensures .1 }
+returns-2 c =
+    let b = c .before .before .before in
+    let a = b .args in
+    let z = sym (c .before .if1 .left) ∙ c .before .before .code-of .ensures in
+    record {
+      code = z;
+      place = no-place (a .c) (a .m) (b .pre) (a .kind) (a .proc) (a .action) (a .source) 0 z refl;
+      accepted = λ z. c .taken .ensures .0;
+      refused = λ z. absurd (omega arith);
+      valid = c .taken .ensures .1;
+    }
 
 pub step-spec : {M : Type 1} → statement M
-step-spec = tie.close (tie.spec code-of-requires returns taken-requires returns-2)
+step-spec = tie.close (tie.spec code-of-requires place-of-requires returns taken-requires returns-2)

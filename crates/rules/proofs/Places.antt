@@ -1,0 +1,23 @@
+-- Each answer of a replay has its place: all together, by computation. Assumes nothing.
+use mathlib.Core.Path.{_≡_, refl}
+use mathlib.Core.Bool.{true}
+use Rattle.words.specs.Small.{all, someBelow}
+use Rattle.words.specs.Refusals.{firstOf}
+use Rattle.cases.specs.Block.{bad3, bad4, bad5, bad6, zero5, badByte, contents}
+use Rattle.runs.specs.Replay.{replay}
+use Rattle.rules.specs.Kinds.{heldBy}
+use Rattle.rules.specs.Order.{joined, joinedIf}
+use Rattle.rules.specs.Issue.{issueRefusals, issued}
+use Rattle.rules.specs.Commit.{visible, commitRefusals, committed}
+use Rattle.rules.specs.Step.{stepCode, stepPlace, after}
+use Rattle.rules.specs.Claims.{Every, Holds}
+use Rattle.rules.specs.Places.{places}
+use Rattle.rules.proofs.Quick.{quick}
+use Rattle.rules.proofs.Rows.{test, every}
+
+computed : all test places ≡ true
+unfolding test quick bad3 bad4 bad5 bad6 zero5 badByte contents someBelow firstOf replay heldBy joined joinedIf issueRefusals issued visible commitRefusals committed stepCode stepPlace after
+computed = refl
+
+pub places-hold : Every Holds places
+places-hold = every places computed
