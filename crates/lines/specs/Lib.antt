@@ -1,0 +1,5 @@
+pub mod Quoted
+pub mod Decimal
+pub mod Laid
+pub mod Answers
+pub mod Outcome
