@@ -58,7 +58,7 @@ fn write_processor(block: &mut [u8; LENGTH], p: usize, processor: &Processor) {
     }
 }
 
-/// The case of a block, or the first of codes 1 to 7 that applies.
+/// The case of a block, or the first of codes 1 to 7 and 19 that applies.
 pub fn read(block: &[u8]) -> Result<Case, Refusal> {
     let block: &[u8; LENGTH] = block.try_into().map_err(|_| Reason::BlockLength)?;
     if word(block, CHECK) != check(block) {
@@ -87,7 +87,7 @@ pub fn close(buffer: &mut [u8]) -> Result<(), Refusal> {
     closed
 }
 
-/// A buffer as a block, if codes 1 and 3 to 7 do not apply.
+/// A buffer as a block, if codes 1, 3 to 7 and 19 do not apply.
 fn closable(buffer: &mut [u8]) -> Result<&mut [u8; LENGTH], Refusal> {
     let block: &mut [u8; LENGTH] = buffer.try_into().map_err(|_| Reason::BlockLength)?;
     faults::judge(block)?;
@@ -114,6 +114,7 @@ mod tests {
     /// Two processors, three locations; processor 1's second instruction stands at 92 + 72 + 6 = 170.
     fn sample() -> Case {
         Case::builder(2, 3)
+            .preset(0, 0, 0)
             .preset(0, 1, 0x0102)
             .preset(1, 7, 9)
             .memory(2, 0xBEEF)
@@ -127,7 +128,7 @@ mod tests {
     #[test]
     fn bytes_stand_where_document_01_says() {
         let block = sample().block();
-        assert_eq!(block[..12], [2, 3, 8, 0, 2, 2, 0, 0, 0b10, 0b1000_0000, 0, 0]);
+        assert_eq!(block[..12], [2, 3, 8, 0, 2, 2, 0, 0, 0b11, 0b1000_0000, 0, 0]);
         assert_eq!(block[14..16], [2, 1]);
         assert_eq!(block[42..44], [9, 0]);
         assert_eq!(block[80..82], [0xEF, 0xBE]);
@@ -166,7 +167,7 @@ mod tests {
         for (at, byte, position) in [(4, 13, 4), (6, 1, 6), (0, 1, 5)] {
             assert_eq!(with(at, byte), (4, position), "byte {at}");
         }
-        for (at, byte, position) in [(8, 0, 14), (10, 1, 10), (12, 1, 12), (13, 1, 13), (91, 1, 91), (1, 2, 80)] {
+        for (at, byte, position) in [(8, 0, 14), (10, 1, 10), (16, 1, 16), (17, 1, 17), (91, 1, 91), (1, 2, 80)] {
             assert_eq!(with(at, byte), (5, position), "byte {at}");
         }
         for (at, byte, position) in [(92, 0, 92), (92, 11, 92), (93, 1, 93), (95, 8, 95), (97, 1, 97), (102, 3, 102)] {
@@ -178,7 +179,10 @@ mod tests {
         for (at, byte, position) in [(104, 1, 104), (4, 1, 98), (163, 1, 163), (236, 1, 236), (380, 1, 380), (509, 1, 509)] {
             assert_eq!(with(at, byte), (7, position), "byte {at}");
         }
-        for (at, byte) in [(2, 96), (80, 1), (102, 0), (174, 2)] {
+        for (at, byte) in [(94, 2), (95, 7), (166, 0), (172, 6)] {
+            assert_eq!(with(at, byte), (19, at as u32));
+        }
+        for (at, byte) in [(2, 96), (80, 1), (102, 0), (166, 2), (174, 2)] {
             assert_eq!(with(at, byte), (0, 0), "byte {at}");
         }
     }

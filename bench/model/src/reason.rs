@@ -1,6 +1,6 @@
 use std::fmt;
 
-/// Document 01's refusals.
+/// The refusals of documents 01 and 02, in the order they are tried.
 #[derive(Clone, Copy, Debug, PartialEq, Eq, PartialOrd, Ord, Hash)]
 pub enum Reason {
     BlockLength,
@@ -10,6 +10,7 @@ pub enum Reason {
     NotZero,
     Instruction,
     Unused,
+    NobodySets,
     ScheduleLength,
     ResultLength,
     Bound,
@@ -31,8 +32,8 @@ pub enum Reason {
 
 use Reason::*;
 
-/// Each refusal with its code and document 01's words, in the order of the codes.
-const TABLE: [(Reason, u32, &str); 24] = [
+/// Each refusal with its code and its document's words, in the order they are tried.
+const TABLE: [(Reason, u32, &str); 25] = [
     (BlockLength, 1, "length is not 512"),
     (Check, 2, "check"),
     (Sizes, 3, "bytes 0 to 3"),
@@ -40,6 +41,7 @@ const TABLE: [(Reason, u32, &str); 24] = [
     (NotZero, 5, "a byte of 8..91 that must be zero"),
     (Instruction, 6, "a used instruction with a bad op, register, label or unused field"),
     (Unused, 7, "a byte that must be zero in unused slots or 380..509"),
+    (NobodySets, 19, "a used instruction reads a register that no preset gives and no instruction of its processor assigns"),
     (ScheduleLength, 8, "schedule length not a multiple of 4 or over 384"),
     (ResultLength, 9, "result buffer not 104 bytes"),
     (Bound, 10, "bound over 96"),
@@ -60,12 +62,12 @@ const TABLE: [(Reason, u32, &str); 24] = [
 ];
 
 impl Reason {
-    /// Every refusal, in the order of the codes.
+    /// Every refusal, in the order they are tried.
     pub fn all() -> impl Iterator<Item = Reason> {
         TABLE.iter().map(|row| row.0)
     }
 
-    /// Document 01's number.
+    /// Its number.
     pub fn code(self) -> u32 {
         TABLE[self as usize].1
     }
@@ -75,12 +77,12 @@ impl Reason {
         TABLE.iter().find(|row| row.1 == code).map(|row| row.0)
     }
 
-    /// A code of the block itself: 1 to 7.
+    /// A code of the block itself: 1 to 7 and 19.
     pub fn is_of_block(self) -> bool {
-        self <= Unused
+        self <= NobodySets
     }
 
-    /// A code that belongs to a byte of the block: 3 to 7.
+    /// A code that belongs to a byte of the block: 3 to 7 and 19.
     pub fn has_position(self) -> bool {
         self.is_of_block() && self > Check
     }
@@ -105,7 +107,7 @@ mod tests {
             assert_eq!(Reason::from_code(*code), Some(*refusal));
         }
         let codes: Vec<u32> = Reason::all().map(Reason::code).collect();
-        assert_eq!(codes, (1..=11).chain(20..=32).collect::<Vec<u32>>());
+        assert_eq!(codes, (1..=7).chain([19]).chain(8..=11).chain(20..=32).collect::<Vec<u32>>());
         assert_eq!(Reason::from_code(0), None);
     }
 }

@@ -1,4 +1,4 @@
-//! A block judged byte by byte. Each position belongs to one code, by what stands in the bytes before it.
+//! A block judged byte by byte: the code that each is bad for, if any.
 
 use model::block::{self, LENGTH};
 use model::{Case, Reason, Refusal};
@@ -49,7 +49,8 @@ fn fault(block: &[u8; LENGTH], at: usize) -> Option<Reason> {
             (mask & 1 << register == 0 && byte != 0, Reason::NotZero)
         }
         76..92 => ((at - 76) / 2 >= locations && byte != 0, Reason::NotZero),
-        92..380 if is_used(block, at - 92) => (is_bad_field(block, at - 92), Reason::Instruction),
+        92..380 if is_used(block, at - 92) && is_bad_field(block, at - 92) => (true, Reason::Instruction),
+        92..380 if is_used(block, at - 92) => (reads_unset(block, at - 92), Reason::NobodySets),
         _ => (byte != 0, Reason::Unused),
     };
     bad.then_some(reason)
@@ -62,6 +63,16 @@ fn is_used(block: &[u8; LENGTH], at: usize) -> bool {
 
 /// The fields that each op names: c for a constant, l for a label.
 const NAMED: [&str; 11] = ["", "da", "ab", "dc", "dab", "dab", "dab", "al", "l", "a", "a"];
+
+/// Whether a byte is an a or b that names a register with no preset and never the d of its processor.
+fn reads_unset(block: &[u8; LENGTH], at: usize) -> bool {
+    let (processor, slot, register) = (at / 72, 92 + at / 6 * 6, block[92 + at]);
+    let named = |slot: usize, field: char| NAMED.get(usize::from(block[slot])).is_some_and(|fields| fields.contains(field));
+    let slots = (0..12).map(|i| 72 * processor + 6 * i).filter(|&other| is_used(block, other));
+    let mut assigned = slots.filter(|other| named(92 + other, 'd')).map(|other| block[92 + other + 1]);
+    let reads = at % 6 == 2 && named(slot, 'a') || at % 6 == 3 && named(slot, 'b');
+    reads && register < 8 && block[8 + processor] & 1 << register == 0 && !assigned.any(|d| d == register)
+}
 
 fn is_bad_field(block: &[u8; LENGTH], at: usize) -> bool {
     let bytes = &block[92 + at / 6 * 6..][..6];

@@ -28,9 +28,18 @@ pub fn to_list(rng: &mut Rng) -> Case {
                 *instr = racing(rng);
             }
         }
-        case = case.preset(p, 7, p as u16 + 5).program(p, &program);
+        case = programmed(rng, case, p, &program).preset(p, 7, p as u16 + 5);
     }
     case.build().expect("a sound case")
+}
+
+/// A processor's program, with presets for registers that it reads and nothing sets: otherwise the case gets 19.
+fn programmed(rng: &mut Rng, mut case: CaseBuilder, p: usize, program: &[Instr]) -> CaseBuilder {
+    let set: Vec<u8> = program.iter().filter_map(|instr| instr.output()).chain(GIVEN).collect();
+    for k in program.iter().flat_map(|instr| instr.inputs()).filter(|k| !set.contains(k)) {
+        case = case.preset(p, k.into(), rng.pick(&VALUES));
+    }
+    case.program(p, program)
 }
 
 /// A critical section on each of two processors.
@@ -92,7 +101,7 @@ pub fn to_replay(rng: &mut Rng) -> Case {
         if rng.once_in(2) {
             program[count - 1] = goto(rng.below(count) as u16);
         }
-        case = case.program(p, &program);
+        case = programmed(rng, case, p, &program);
     }
     case.build().expect("a sound case")
 }

@@ -15,9 +15,10 @@ pub(crate) const LENGTHS: usize = 400;
 /// A record buffer's length is also every multiple of 96 up to so many, with one byte less and one more.
 pub(crate) const RECORDS: usize = 40;
 
-/// How often a block is damaged at each of its bytes, and how many are damaged at several.
+/// How often a block is damaged at each of its bytes, how many are damaged at several, and how many lose what sets
+/// their registers.
 const SWEEPS: usize = 40;
-const DAMAGED: usize = 20_000;
+const DAMAGED: usize = 10_000;
 
 /// How much to compare, beside the lengths and the damaged blocks.
 #[derive(Clone, Copy, Debug)]
@@ -60,6 +61,7 @@ pub fn compare(plan: Plan, reference: &dyn Calls, other: &dyn Calls) -> Result<T
     }
     for _ in 0..DAMAGED {
         comparison.block(inputs.to_judge_any())?;
+        comparison.block(inputs.to_judge_unset())?;
     }
     Ok(comparison.tally)
 }
@@ -83,7 +85,7 @@ impl Comparison<'_> {
         if reference != other {
             return Err(Box::new(Mismatch::Read { block, reference, other }));
         }
-        self.tally.read(reference);
+        self.tally.read(&block, reference);
         let (mut ours, mut theirs) = (block.clone(), block.clone());
         let (reference, other) = (self.reference.write(&mut ours), self.other.write(&mut theirs));
         if (reference, ours) != (other, theirs) {

@@ -198,6 +198,28 @@ impl Inputs {
         self.to_judge(&changed)
     }
 
+    /// A block with a preset or two less, or another register in a field: mostly one that reads what nothing sets.
+    pub fn to_judge_unset(&mut self) -> Vec<u8> {
+        let mut bytes = cases::to_replay(&mut self.rng).block();
+        for _ in 0..1 + self.rng.below(3) {
+            let p = self.rng.below(bytes[0].into());
+            if self.rng.once_in(2) {
+                self.unset(&mut bytes, p);
+            } else {
+                let at = 92 + 72 * p + 6 * self.rng.below(bytes[4 + p].into()) + 1 + self.rng.below(3);
+                bytes[at] = self.rng.below(8) as u8;
+            }
+        }
+        self.closed(bytes)
+    }
+
+    /// Takes a preset of processor p away.
+    fn unset(&mut self, bytes: &mut [u8; block::LENGTH], p: usize) {
+        let k = self.rng.below(8);
+        bytes[8 + p] &= !(1 << k);
+        bytes[12 + 16 * p + 2 * k..][..2].fill(0);
+    }
+
     /// Half the time one of some positions.
     fn within(&mut self, part: Range<usize>) -> Option<usize> {
         let at = part.start + self.rng.below(part.len());
@@ -207,8 +229,12 @@ impl Inputs {
     /// A block with one byte changed, or of another length.
     fn spoilt_block(&mut self, sound: &[u8]) -> Vec<u8> {
         let mut bytes: [u8; block::LENGTH] = sound.try_into().expect("a block");
-        let at = match self.rng.below(7) {
+        let at = match self.rng.below(8) {
             0 => return [sound, &[0]].concat()[..self.rng.pick(&[0, 1, 511, 513])].to_vec(),
+            7 => {
+                (0..3).for_each(|_| self.unset(&mut bytes, 0));
+                return self.closed(bytes);
+            }
             1 => self.rng.below(512),
             2 => self.rng.below(4),
             3 => 4 + self.rng.below(4),

@@ -28,6 +28,8 @@ pub struct Tally {
     results: BTreeSet<usize>,
     /// The positions of each code in blocks that were read, and how often the code was given.
     blocks: BTreeMap<u32, (BTreeSet<u32>, u32)>,
+    /// The ops and fields at which code 19 stood.
+    unset: BTreeSet<(u8, u32)>,
 }
 
 impl Tally {
@@ -49,10 +51,14 @@ impl Tally {
         self.results.insert(input.room);
     }
 
-    pub(crate) fn read(&mut self, coded: Coded) {
+    pub(crate) fn read(&mut self, block: &[u8], coded: Coded) {
         let (positions, times) = self.blocks.entry(coded.code).or_default();
         positions.insert(coded.position);
         *times += 1;
+        if coded.code == 19 {
+            let part = (coded.position - 92) % 6;
+            self.unset.insert((block[(coded.position - part) as usize], part));
+        }
     }
 
     /// The replays that ended with a code.
@@ -67,16 +73,17 @@ impl Tally {
         3 * self.several >= self.lists.values().sum()
             && 2 * self.long >= self.replays.values().sum()
             && codes.filter(missing).count() == 0
-            && (1..=7).all(|code| self.lists.contains_key(&code) && self.replays.contains_key(&code))
+            && (1..=7).chain([19]).all(|code| self.lists.contains_key(&code) && self.replays.contains_key(&code))
             && (0..12).all(|place| self.places.contains(&place))
             && self.lengths()
             && self.positions()
     }
 
-    /// Each byte that can be bad for codes 3 and 4 was a position, and most of those that can be for 5 to 7.
+    /// Each byte that can be bad for codes 3 and 4 was a position, and most of those that can be for 5 to 7; 19 stood at
+    /// every field that names a register to read.
     fn positions(&self) -> bool {
         let reached = |code: u32| self.blocks.get(&code).map_or(0, |(positions, _)| positions.len());
-        reached(3) == 4 && reached(4) == 4 && reached(5) >= 75 && reached(6) >= 270 && reached(7) >= 390
+        reached(3) == 4 && reached(4) == 4 && reached(5) >= 75 && reached(6) >= 270 && reached(7) >= 390 && self.unset.len() == 12
     }
 
     /// Every length asked for.
@@ -97,6 +104,7 @@ impl fmt::Display for Tally {
         writeln!(f, "  by code{}", codes(&self.replays))?;
         let blocks = self.blocks.iter().map(|(code, (positions, n))| format!(" {code}:{n}/{}", positions.len()));
         writeln!(f, "blocks by code, and the positions it stood at{}", blocks.collect::<String>())?;
+        writeln!(f, "  19 at {} of 12 kinds of field", self.unset.len())?;
         let all = if self.lengths() { "yes" } else { "no" };
         write!(f, "schedules and buffers of every length to {LENGTHS}, records around every multiple of 96 to {RECORDS}: {all}")
     }

@@ -31,7 +31,7 @@ fn with(name: &'static str, bytes: &[(usize, u8)], code: u32, position: u32) -> 
 
 /// One block for each kind of bad byte of each code, and some with several.
 pub fn damaged() -> Vec<Damaged> {
-    [whole(), sizes(), zeros_of_8_to_91(), instructions(), unused(), several()].into_iter().flatten().collect()
+    [whole(), sizes(), zeros_of_8_to_91(), instructions(), unused(), nobody_sets(), several()].into_iter().flatten().collect()
 }
 
 /// Codes 1 and 2, which carry 0 whatever else is bad.
@@ -104,6 +104,27 @@ fn unused() -> Vec<Damaged> {
     ]
 }
 
+/// Request 09: every field that names a register to read. Processor 0 assigns register 2, which is nothing to
+/// processor 1; neither has a register 3 or 5.
+fn nobody_sets() -> Vec<Damaged> {
+    let other = |name, op: u8, d: u8| with(name, &[(164, op), (165, d), (166, 3), (167, 0)], 19, 166);
+    vec![
+        with("block-19-add-a", &[(94, 5)], 19, 94),
+        with("block-19-add-b", &[(95, 5)], 19, 95),
+        with("block-19-sub-a", &[(92, 5), (94, 5)], 19, 94),
+        with("block-19-sub-b", &[(92, 5), (95, 5)], 19, 95),
+        with("block-19-eq-a", &[(92, 6), (94, 5)], 19, 94),
+        with("block-19-eq-b", &[(92, 6), (95, 5)], 19, 95),
+        with("block-19-write-a", &[(166, 3)], 19, 166),
+        with("block-19-write-b", &[(167, 3)], 19, 167),
+        other("block-19-read", 1, 2),
+        other("block-19-branch", 7, 0),
+        other("block-19-acquire", 9, 0),
+        other("block-19-release", 10, 0),
+        with("block-19-assigned-elsewhere", &[(167, 2)], 19, 167),
+    ]
+}
+
 /// The code goes first, then the lowest of its bytes.
 fn several() -> Vec<Damaged> {
     vec![
@@ -113,5 +134,7 @@ fn several() -> Vec<Damaged> {
         with("block-6-lowest", &[(101, 1), (164, 0)], 6, 101),
         with("block-7-lowest", &[(163, 1), (380, 1)], 7, 163),
         with("block-6-before-7", &[(110, 1), (165, 1)], 6, 165),
+        with("block-19-lowest", &[(95, 5), (166, 3)], 19, 95),
+        with("block-7-before-19", &[(94, 5), (509, 1)], 7, 509),
     ]
 }

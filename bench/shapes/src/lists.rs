@@ -39,7 +39,7 @@ impl Shape {
 
 /// Every shape, those of document 01 first.
 pub fn lists() -> Vec<Shape> {
-    [scope(), relaxed(), one_location(), wide(), dependent(), spinning(), behind_the_lock()].concat()
+    [scope(), relaxed(), one_location(), wide(), dependent(), spinning(), behind_the_lock(), set_somewhere()].concat()
 }
 
 /// Document 01's list.
@@ -230,5 +230,18 @@ fn behind_the_lock() -> Vec<Shape> {
         gotos.clone().with("lock-M-goto-48", 48, true, none()),
         gotos.with("lock-M-goto-49", 49, false, none()),
         ends("lock-and-branch", flag, &[(1, 2), (1, 3)], rows(&[&[0, 7], &[1, 0]])),
+    ]
+}
+
+/// Request 09: a register counts as set wherever its processor assigns it. Set by its own reader it is never defined;
+/// set later, or where no run comes, it is not either when it is asked for.
+fn set_somewhere() -> Vec<Shape> {
+    let none = BTreeSet::new;
+    let alone = |program: &[Instr]| usual(1, &[program]);
+    vec![
+        ends("sets-itself", alone(&[add(3, 3, 3)]), &[], none()),
+        ends("set-later", alone(&[write(0, 2), set(2, 1)]), &[], none()),
+        ends("set-out-of-reach", alone(&[goto(2), set(2, 1), write(0, 2)]), &[], none()),
+        ends("set-and-skipped", alone(&[branch(1, 2), write(0, 2), set(2, 7)]), &[(0, 2)], rows(&[&[7]])),
     ]
 }

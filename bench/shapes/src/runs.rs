@@ -83,7 +83,7 @@ fn refused_issues() -> Vec<Run> {
     vec![
         run("issue-after-branch", alone(&[branch(0, 0)]), &[issue(0), issue(0)], 21),
         run("issue-at-end", alone(&[]), &[issue(0)], 22),
-        run("address-undefined", alone(&[read(2, 3)]), &[issue(0)], 24).at(0),
+        run("address-undefined", alone(&[read(2, 3), set(3, 0)]), &[issue(0)], 24).at(0),
         run("address-queued", alone(&[set(3, 0), write(3, 1)]), &[issue(0), issue(0)], 24).at(1),
         run("address-M", alone(&[write(1, 1)]), &[issue(0)], 25).at(0),
     ]
@@ -101,7 +101,7 @@ fn refused_commits() -> Vec<Run> {
         run("read-past-acquire", alone(&[acquire(0), read(2, 0)]), &[issue(0), issue(0), take(0, 1, 0)], 28).at(1),
         run("release-past-goto", alone(&[goto(1), release(0)]), &[issue(0), issue(0), commit(0, 1)], 28).at(1),
         run("write-past-read", alone(&[read(2, 0), write(0, 1)]), &[issue(0), issue(0), commit(0, 1)], 0),
-        run("value-undefined", alone(&[write(0, 2)]), &[issue(0), commit(0, 0)], 29).at(0),
+        run("value-undefined", alone(&[write(0, 2), set(2, 1)]), &[issue(0), commit(0, 0)], 29).at(0),
         run("release-of-free", alone(&[release(0)]), &[issue(0), commit(0, 0)], 31).at(0),
         run("acquire-of-held", two(&[acquire(0)], &[acquire(0)]), &held, 31).at(0),
     ]

@@ -158,7 +158,7 @@ fn damaged_blocks_name_their_byte() {
 #[test]
 fn replay_prints_what_is_expected() {
     for run in runs() {
-        let at = if (1..=7).contains(&run.code) { format!(" at {}", run.position) } else { String::new() };
+        let at = if (1..=7).contains(&run.code) || run.code == 19 { format!(" at {}", run.position) } else { String::new() };
         let expected = format!("code {} after {} steps{at}\n", run.code, run.steps);
         assert_eq!(shapes::replay_prints(&[run.block, run.schedule].concat()), expected, "{}", run.name);
     }

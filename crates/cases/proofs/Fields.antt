@@ -4,51 +4,61 @@ use mathlib.Core.Bool.{Bool, true, false, _&&_, _||_, not, false≢true}
 use mathlib.Core.List.{List, [], _∷_}
 use Prim.Native.Nat.{ℕ, zero, suc, _+_, _*_, _-_, _%_, _<_, _≤_}
 use native.Mathlib.Omega.{arith}
-use lib.Dec.{eqb, ltb, leb}
+use lib.Dec.{eqb, ltb, leb, lit<}
 use lib.ListN.{getD, List·getD-eq-default}
 use borrow.Author.Tests.{lt-ltb, eq-eqb, ne-eqb}
 use Rattle.words.specs.Small.{all, counting}
 use Rattle.words.proofs.Bools.{cond-true, cond-false, or-nothing}
 use Rattle.words.proofs.Lists.{all-below}
-use Rattle.cases.specs.Instruction.{Field, zeroed, register, free, label, fields, fieldAt, fieldOf, badField}
+use Rattle.cases.specs.Instruction.{Field, zeroed, assigned, read, free, label, fields, fieldAt, fieldOf, badField, isAssigned, isRead}
 use Rattle.cases.specs.Block.{byte, word, badByte}
 
 abbrev pub table : List ℕ
 table =
     0 ∷ 0 ∷ 0 ∷ 0 ∷ 0
-    ∷ 1 ∷ 1 ∷ 0 ∷ 0 ∷ 0
-    ∷ 0 ∷ 1 ∷ 1 ∷ 0 ∷ 0
-    ∷ 1 ∷ 0 ∷ 0 ∷ 2 ∷ 2
-    ∷ 1 ∷ 1 ∷ 1 ∷ 0 ∷ 0
-    ∷ 1 ∷ 1 ∷ 1 ∷ 0 ∷ 0
-    ∷ 1 ∷ 1 ∷ 1 ∷ 0 ∷ 0
-    ∷ 0 ∷ 1 ∷ 0 ∷ 3 ∷ 2
-    ∷ 0 ∷ 0 ∷ 0 ∷ 3 ∷ 2
-    ∷ 0 ∷ 1 ∷ 0 ∷ 0 ∷ 0
-    ∷ 0 ∷ 1 ∷ 0 ∷ 0 ∷ 0
+    ∷ 1 ∷ 2 ∷ 0 ∷ 0 ∷ 0
+    ∷ 0 ∷ 2 ∷ 2 ∷ 0 ∷ 0
+    ∷ 1 ∷ 0 ∷ 0 ∷ 3 ∷ 3
+    ∷ 1 ∷ 2 ∷ 2 ∷ 0 ∷ 0
+    ∷ 1 ∷ 2 ∷ 2 ∷ 0 ∷ 0
+    ∷ 1 ∷ 2 ∷ 2 ∷ 0 ∷ 0
+    ∷ 0 ∷ 2 ∷ 0 ∷ 4 ∷ 3
+    ∷ 0 ∷ 0 ∷ 0 ∷ 4 ∷ 3
+    ∷ 0 ∷ 2 ∷ 0 ∷ 0 ∷ 0
+    ∷ 0 ∷ 2 ∷ 0 ∷ 0 ∷ 0
     ∷ []
 
 abbrev number : Field → ℕ
 number zeroed = 0
-number register = 1
-number free = 2
-number label = 3
+number assigned = 1
+number read = 2
+number free = 3
+number label = 4
 
 same : (f g : Field) → eqb (number f) (number g) ≡ true → f ≡ g
 same zeroed zeroed h = refl
-same zeroed register h = absurd (false≢true h)
+same zeroed assigned h = absurd (false≢true h)
+same zeroed read h = absurd (false≢true h)
 same zeroed free h = absurd (false≢true h)
 same zeroed label h = absurd (false≢true h)
-same register zeroed h = absurd (false≢true h)
-same register register h = refl
-same register free h = absurd (false≢true h)
-same register label h = absurd (false≢true h)
+same assigned zeroed h = absurd (false≢true h)
+same assigned assigned h = refl
+same assigned read h = absurd (false≢true h)
+same assigned free h = absurd (false≢true h)
+same assigned label h = absurd (false≢true h)
+same read zeroed h = absurd (false≢true h)
+same read assigned h = absurd (false≢true h)
+same read read h = refl
+same read free h = absurd (false≢true h)
+same read label h = absurd (false≢true h)
 same free zeroed h = absurd (false≢true h)
-same free register h = absurd (false≢true h)
+same free assigned h = absurd (false≢true h)
+same free read h = absurd (false≢true h)
 same free free h = refl
 same free label h = absurd (false≢true h)
 same label zeroed h = absurd (false≢true h)
-same label register h = absurd (false≢true h)
+same label assigned h = absurd (false≢true h)
+same label read h = absurd (false≢true h)
 same label free h = absurd (false≢true h)
 same label label h = refl
 
@@ -64,11 +74,30 @@ table-rule op k h l = same _ _ (all-below (entry op) 5 (all-below (λ op. all (e
 pub no-field : (op k : ℕ) → 11 ≤ op → zeroed ≡ fieldAt op k
 no-field op k h = ap (λ (l : List Field). getD l k zeroed) (sym (List·getD-eq-default fields [] h))
 
-pub bad-field : (f n v w : ℕ) → ((eqb f 0 && not (eqb v 0)) || (eqb f 1 && leb 8 v) || (ltb 2 f && ltb n w)) ≡ badField (fieldOf f) n v w
+-- a number past the last field's
+far : (f k : ℕ) → k < 4 → eqb (suc (suc (suc (suc f)))) k ≡ false
+far f k h = ne-eqb (suc (suc (suc (suc f)))) k (λ e. absurd (omega arith))
+
+pub bad-field : (f n v w : ℕ) → ((eqb f 0 && not (eqb v 0)) || ((eqb f 1 || eqb f 2) && leb 8 v) || (ltb 3 f && ltb n w)) ≡ badField (fieldOf f) n v w
 bad-field zero n v w = or-nothing _ ∙ or-nothing _
 bad-field (suc zero) n v w = or-nothing _
-bad-field (suc (suc zero)) n v w = refl
-bad-field (suc (suc (suc f))) n v w = rw (ne-eqb (suc (suc (suc f))) 0 (λ e. absurd (omega arith)), ne-eqb (suc (suc (suc f))) 1 (λ e. absurd (omega arith)), lt-ltb 2 (suc (suc (suc f))) (omega arith))
+bad-field (suc (suc zero)) n v w = or-nothing _
+bad-field (suc (suc (suc zero))) n v w = refl
+bad-field (suc (suc (suc (suc f)))) n v w = rw (far f 0 (lit< tt), far f 1 (lit< tt), far f 2 (lit< tt), lt-ltb 3 (suc (suc (suc (suc f)))) (omega arith))
+
+pub assigned-field : (f : ℕ) → eqb f 1 ≡ isAssigned (fieldOf f)
+assigned-field zero = refl
+assigned-field (suc zero) = refl
+assigned-field (suc (suc zero)) = refl
+assigned-field (suc (suc (suc zero))) = refl
+assigned-field (suc (suc (suc (suc f)))) = far f 1 (lit< tt)
+
+pub read-field : (f : ℕ) → eqb f 2 ≡ isRead (fieldOf f)
+read-field zero = refl
+read-field (suc zero) = refl
+read-field (suc (suc zero)) = refl
+read-field (suc (suc (suc zero))) = refl
+read-field (suc (suc (suc (suc f)))) = far f 2 (lit< tt)
 
 -- bad_byte: the op, and a byte after it
 

@@ -1,7 +1,7 @@
 -- The bytes of the case that a sound block holds are the block's own. Assumes nothing.
 use mathlib.Core.Path.{_≡_, refl, ap, sym, _∙_}
 use mathlib.Core.Logic.{⊎-elim}
-use mathlib.Core.Bool.{true, false, _&&_, not}
+use mathlib.Core.Bool.{true, false, _&&_, _||_, not}
 use mathlib.Core.List.{List, [], _∷_, _++_, append-assoc, append-nil}
 use Prim.Native.Nat.{ℕ, zero, suc, _+_, _*_, _-_, _/_, _%_, _<_, _≤_}
 use native.Mathlib.Nat.{add-zero, mul-suc, mul-zero}
@@ -9,15 +9,15 @@ use native.Mathlib.Omega.{arith}
 use lib.Dec.{eqb, ltb, leb, lit<}
 use lib.ListN.{length, getD, take, replicate, getD-replicate}
 use lib.Seq.{take-suc}
-use borrow.Author.Tests.{lt-ltb, le-leb, eqb-true, eqb-false, ltb-false, not-false}
+use borrow.Author.Tests.{ne-eqb, lt-ltb, le-leb, eqb-true, eqb-false, ltb-false, not-false}
 use Rattle.words.specs.Small.{each, concatMap}
 use Rattle.words.specs.Refusals.{firstOf}
 use Rattle.words.proofs.Bools.{decide, and-make, and-rest, or-none, or-left, or-right, none-below}
 use Rattle.words.proofs.First.{first-none, not-yes}
 use Rattle.words.proofs.Lists.{each-is, each-more, concatMap-append}
 use Rattle.cases.specs.declared.Instr.{Instr}
-use Rattle.cases.specs.Instruction.{two, instrOf, instrBytes, fieldAt, badField}
-use Rattle.cases.specs.Block.{within, procAt, numberAt, byteAt, byte, word, marked, used, bad3, bad4, badByte, bad6, bad7, faults, slotAt, slotBytes, caseOf, contents}
+use Rattle.cases.specs.Instruction.{two, instrOf, instrBytes, fieldAt, badField, isRead}
+use Rattle.cases.specs.Block.{within, procAt, numberAt, byteAt, byte, word, marked, used, bad3, bad4, badByte, bad6, bad7, isSet, readsAt, bad19, faults, slotAt, slotBytes, caseOf, contents}
 use Rattle.cases.specs.Formed.{Bytes}
 use Rattle.cases.proofs.Fields.{op-byte, field-byte}
 use Rattle.cases.proofs.Slots.{two-of, bytes-back}
@@ -28,6 +28,7 @@ pub record Clean (s : List ℕ) : Type 0 where
   pub fourth : (i : ℕ) → i < 510 → bad4 s i ≡ false
   pub sixth : (i : ℕ) → i < 510 → bad6 s i ≡ false
   pub seventh : (i : ℕ) → i < 510 → bad7 s i ≡ false
+  pub nineteenth : (i : ℕ) → i < 510 → bad19 s i ≡ false
 
 pub clean : (s : List ℕ) → firstOf (faults s) ≡ 0 → Clean s
 clean s h =
@@ -36,7 +37,16 @@ clean s h =
     let c = first-none 4 _ _ (b .1) in
     let d = first-none 5 _ _ (c .1) in
     let e = first-none 6 _ _ (d .1) in
-    record { third = none-below 510 (bad3 s) (a .0); fourth = none-below 510 (bad4 s) (b .0); sixth = none-below 510 (bad6 s) (d .0); seventh = none-below 510 (bad7 s) (e .0) }
+    let f = first-none 18 _ _ (e .1) in
+    record { third = none-below 510 (bad3 s) (a .0); fourth = none-below 510 (bad4 s) (b .0); sixth = none-below 510 (bad6 s) (d .0); seventh = none-below 510 (bad7 s) (e .0); nineteenth = none-below 510 (bad19 s) (f .0) }
+
+-- at most four processors
+pub few-procs : (s : List ℕ) → Clean s → byte s 0 ≤ 4
+unfolding bad3
+few-procs s ok =
+    let bad = eqb (byte s 0) 0 || ltb 4 (byte s 0) in
+    let h = or-none bad false (or-none (bad || false) false (or-none (bad || false || false) false (ok .third 0 (lit< tt)) .0) .0) .0 in
+    ltb-false 4 (byte s 0) (or-none (eqb (byte s 0) 0) (ltb 4 (byte s 0)) h .1)
 
 -- the slots of a block that is sound
 module _ (s : List ℕ) (ok : Clean s) where
@@ -94,6 +104,21 @@ module _ (s : List ℕ) (ok : Clean s) where
     used-fields u (suc (suc (suc zero))) b = used-field u 3 b
     used-fields u (suc (suc (suc (suc zero)))) b = used-field u 4 b
     used-fields u (suc (suc (suc (suc (suc k))))) b = absurd (omega arith)
+
+    -- a register that it reads is set
+
+    pub read-set : used s (m / 12) (m % 12) ≡ true → (k : ℕ) → k < 5 → isRead (fieldAt (byte s (at 0)) k) ≡ true → isSet s (m / 12) (byte s (at (suc k))) ≡ true
+    unfolding bad19 readsAt
+    read-set u k b r =
+        let i = at (suc k) in
+        let op = byte s (i - byteAt i) in
+        let q : i - byteAt i ≡ at 0 = omega arith in
+        let z : (i - 92) % 6 - 1 ≡ k = omega arith in
+        let after : eqb (byteAt i) 0 ≡ false = ne-eqb (byteAt i) 0 (λ e. absurd (omega arith)) in
+        let reads : readsAt op i ≡ true = and-make (not (eqb (byteAt i) 0)) (isRead (fieldAt op (byteAt i - 1))) (not-yes _ after) ((λ t. isRead (fieldAt (byte s (q t)) (z t))) ∙ r) in
+        let used-here = and-make (within 92 380 i) (used s (procAt i) (numberAt i)) (inside (suc k) (omega arith)) (used-at (suc k) (omega arith) ∙ u) in
+        let unset = and-rest (within 92 380 i && used s (procAt i) (numberAt i) && readsAt op i) (not (isSet s (procAt i) (byte s i))) (ok .nineteenth i (omega arith)) (and-make (within 92 380 i && used s (procAt i) (numberAt i)) (readsAt op i) used-here reads) in
+        ap (λ (p : ℕ). isSet s p (byte s i)) (sym (place (suc k) (omega arith) .0)) ∙ not-false (isSet s (procAt i) (byte s i)) unset
 
     -- the instruction in the slot has the slot's bytes
 

@@ -1,4 +1,6 @@
 pub mod Lowest
+pub mod Spans
+pub mod Registers
 pub mod Fields
 pub mod Agree
 pub mod Decoding

@@ -1,18 +1,19 @@
 -- The lowest position that is bad for a code, and the first code that has one. Assumes nothing.
 use mathlib.Core.Path.{_≡_, refl, ap, sym, _∙_, subst}
 use mathlib.Core.Logic.{⊎-elim}
-use mathlib.Core.Bool.{Bool, true, false, cond, false≢true}
-use mathlib.Core.List.{List}
+use mathlib.Core.Bool.{Bool, true, false, _&&_, cond, false≢true}
+use mathlib.Core.List.{List, [], _∷_}
 use Prim.Native.Nat.{ℕ, zero, suc, _<_, _≤_}
 use native.Mathlib.Omega.{arith}
 use native.Mathlib.Decide.{decLt}
-use lib.Dec.{ltb, lit<}
+use lib.Dec.{eqb, ltb, lit<}
+use lib.ListN.{List·getD-eq-default}
 use borrow.Author.Tests.{lt-ltb, le-ltb}
 use Rattle.words.specs.Small.{someBelow}
 use Rattle.words.specs.Refusals.{firstOf}
 use Rattle.words.proofs.Bools.{cond-true, cond-false, decide, below-cases, below-make}
 use Rattle.words.proofs.First.{hit, miss, none, first}
-use Rattle.cases.specs.Block.{lowest, bad3, bad4, bad5, bad6, bad7, faults, refusals, bad, positionOf, faultOf}
+use Rattle.cases.specs.Block.{lowest, bad3, bad4, bad5, bad6, bad7, bad19, faults, bad, positionOf, faultOf}
 
 pub lowest-is : (n : ℕ) (f : ℕ → Bool) (r : ℕ) → r ≤ n → ((k : ℕ) → k < r → f k ≡ false) → (r < n → f r ≡ true) → r ≡ lowest n f
 unfolding lowest
@@ -91,9 +92,13 @@ module _ (s : List ℕ) where
       first (faults s) (miss (p 3 (lit< tt)) (miss (p 4 (lit< tt)) (miss (p 5 (lit< tt)) (miss (p 6 (lit< tt)) (hit e)))))
   first-code (suc (suc (suc (suc (suc (suc (suc (suc k)))))))) l h p e = absurd (omega arith)
 
-  no-code : Passed s 8 → 0 ≡ firstOf (faults s)
+  first-19 : Passed s 8 → someBelow 510 (bad s 19) ≡ true → 19 ≡ firstOf (faults s)
   unfolding bad
-  no-code p = first (faults s) (miss (p 3 (lit< tt)) (miss (p 4 (lit< tt)) (miss (p 5 (lit< tt)) (miss (p 6 (lit< tt)) (miss (p 7 (lit< tt)) none)))))
+  first-19 p e = first (faults s) (miss (p 3 (lit< tt)) (miss (p 4 (lit< tt)) (miss (p 5 (lit< tt)) (miss (p 6 (lit< tt)) (miss (p 7 (lit< tt)) (hit e))))))
+
+  no-code : Passed s 8 → someBelow 510 (bad s 19) ≡ false → 0 ≡ firstOf (faults s)
+  unfolding bad
+  no-code p e = first (faults s) (miss (p 3 (lit< tt)) (miss (p 4 (lit< tt)) (miss (p 5 (lit< tt)) (miss (p 6 (lit< tt)) (miss (p 7 (lit< tt)) (miss e none))))))
 
   -- a code that is the one asked for, with its position
   fault-is : (code position n : ℕ) → code ≡ n → position ≡ positionOf s code → record { code = code; position = position } ≡ faultOf s n
@@ -104,15 +109,26 @@ module _ (s : List ℕ) where
   unfolding positionOf
   fault-none code n h p = fault-is code 0 n p (sym (cond-true (ltb code 3) 0 _ (lt-ltb code 3 h)))
 
-  -- the answers of judge: at a code with a bad position, and after the last code
-  pub judge-found : (code position : ℕ) → 3 ≤ code → code < 8 → Passed s code → position ≡ lowest 510 (bad s code) → position < 510 → record { code = code; position = position } ≡ faultOf s (firstOf (faults s))
+  -- the answers of judge: at a code with a bad position, at 19, and after it
+  found : (code n position : ℕ) → 3 ≤ code → code ≡ n → position ≡ lowest 510 (bad s code) → record { code = code; position = position } ≡ faultOf s n
   unfolding positionOf
-  judge-found code position l h p e b =
-      fault-is code position _ (first-code code l h p (some-bad 510 (bad s code) (subst (λ (n : ℕ). n < 510) e b)))
-      (e ∙ sym (cond-false (ltb code 3) 0 _ (le-ltb code 3 l)))
+  found code n position l p e = fault-is code position n p (e ∙ sym (cond-false (ltb code 3) 0 _ (le-ltb code 3 l)))
 
-  pub judge-none : (code : ℕ) → 8 ≤ code → code ≤ 8 → Passed s code → record { code = 0; position = 0 } ≡ faultOf s (firstOf (faults s))
-  judge-none code l h p = fault-none 0 _ (lit< tt) (no-code (subst (Passed s) (omega arith) p))
+  some-low : (code position : ℕ) → position ≡ lowest 510 (bad s code) → position < 510 → someBelow 510 (bad s code) ≡ true
+  some-low code position e b = some-bad 510 (bad s code) (subst (λ (n : ℕ). n < 510) e b)
+
+  pub judge-found : (code position : ℕ) → 3 ≤ code → code < 8 → Passed s code → position ≡ lowest 510 (bad s code) → position < 510 → record { code = code; position = position } ≡ faultOf s (firstOf (faults s))
+  judge-found code position l h p e b = found code _ position l (first-code code l h p (some-low code position e b)) e
+
+  module _ (code : ℕ) (l : 8 ≤ code) (h : code ≤ 8) (p : Passed s code) (position : ℕ) (e : position ≡ lowest 510 (bad s 19)) where
+    passed : Passed s 8
+    passed = subst (Passed s) (omega arith) p
+
+    pub judge-19 : position < 510 → record { code = 19; position = position } ≡ faultOf s (firstOf (faults s))
+    judge-19 b = found 19 _ position (omega arith) (first-19 passed (some-low 19 position e b)) e
+
+    pub judge-none : 510 ≤ position → record { code = 0; position = 0 } ≡ faultOf s (firstOf (faults s))
+    judge-none b = fault-none 0 _ (lit< tt) (no-code passed (none-bad 510 (bad s 19) (subst (λ (n : ℕ). 510 ≤ n) e b)))
 
 -- bad: the test of each code
 module _ (s : List ℕ) (i : ℕ) where
@@ -136,5 +152,9 @@ module _ (s : List ℕ) (i : ℕ) where
   unfolding bad
   bad-7 = refl
 
-pub last-code : (code : ℕ) → 3 ≤ code → code < 8 → (code ≡ 3 → ⊥) → (code ≡ 4 → ⊥) → (code ≡ 5 → ⊥) → (code ≡ 6 → ⊥) → code ≡ 7
-last-code code l h a b c d = omega arith
+  pub bad-else : (code : ℕ) → 8 ≤ code → (eqb code 19 && bad19 s i) ≡ bad s code i
+  unfolding bad
+  bad-else code h = sym (List·getD-eq-default (false ∷ false ∷ false ∷ bad3 s i ∷ bad4 s i ∷ bad5 s i ∷ bad6 s i ∷ bad7 s i ∷ []) _ h)
+
+pub last-code : (code : ℕ) → 3 ≤ code → (code ≡ 3 → ⊥) → (code ≡ 4 → ⊥) → (code ≡ 5 → ⊥) → (code ≡ 6 → ⊥) → (code ≡ 7 → ⊥) → 8 ≤ code
+last-code code l a b c d e = omega arith

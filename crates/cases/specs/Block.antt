@@ -13,7 +13,7 @@ use Rattle.cases.specs.declared.Case.{Case}
 use Rattle.cases.specs.declared.CaseRead.{CaseRead}
 use Rattle.cases.specs.declared.Fault.{Fault}
 use Rattle.cases.specs.declared.Instr.the-variants.{Empty}
-use Rattle.cases.specs.Instruction.{fieldAt, badField, instrOf, instrBytes, two}
+use Rattle.cases.specs.Instruction.{fieldAt, badField, isAssigned, isRead, instrOf, instrBytes, two}
 
 -- Position i is one of from, from + 1, .., to - 1.
 abbrev pub within : ℕ → ℕ → ℕ → Bool
@@ -30,6 +30,10 @@ numberAt i = (i - 92) % 72 / 6
 -- Which of its six bytes stands there.
 abbrev pub byteAt : ℕ → ℕ
 byteAt i = (i - 92) % 6
+
+-- The byte at position i, of a slot with this op, names a register that the instruction reads.
+unfoldable pub readsAt : ℕ → ℕ → Bool
+readsAt op i = not (eqb (byteAt i) 0) && isRead (fieldAt op (byteAt i - 1))
 
 -- The least number below n with the test, n where there is none.
 unfoldable pub lowest : ℕ → (ℕ → Bool) → ℕ
@@ -107,7 +111,20 @@ module _ (s : List ℕ) where
   unfoldable pub bad7 : ℕ → Bool
   bad7 i = ((within 92 380 i && not (used (procAt i) (numberAt i))) || within 380 510 i) && marked i
 
-  -- Codes 3 to 7, each with its bytes.
+  -- Instruction n of processor p is used and assigns register r.
+  unfoldable pub assignsAt : ℕ → ℕ → ℕ → Bool
+  assignsAt p n r = used p n && isAssigned (fieldAt (byte (92 + 72 * p + 6 * n)) 0) && eqb (byte (93 + 72 * p + 6 * n)) r
+
+  -- Register r of processor p is set: a preset gives it, or a used instruction of the processor assigns it, wherever that stands.
+  unfoldable pub isSet : ℕ → ℕ → Bool
+  isSet p r = has (byte (8 + p)) r || someBelow 12 (λ n. assignsAt p n r)
+
+  -- Code 19: a used instruction reads a register of its processor that nobody sets.
+  unfoldable pub bad19 : ℕ → Bool
+  bad19 i =
+      within 92 380 i && used (procAt i) (numberAt i) && readsAt (byte (i - byteAt i)) i && not (isSet (procAt i) (byte i))
+
+  -- Codes 3 to 7 and 19, each with its bytes.
   abbrev pub faults : List Refusal
   faults =
       3 when someBelow 510 bad3
@@ -115,17 +132,18 @@ module _ (s : List ℕ) where
       ∷ 5 when someBelow 510 bad5
       ∷ 6 when someBelow 510 bad6
       ∷ 7 when someBelow 510 bad7
+      ∷ 19 when someBelow 510 bad19
       ∷ []
 
-  -- Codes 1 to 7 of a block.
+  -- Codes 1 to 7 and 19 of a block.
   abbrev pub refusals : List Refusal
   refusals = 1 when not (eqb (length s) 512) ∷ 2 when not (eqb (word 510) check) ∷ faults
 
   -- Position i is bad for a code. Of a bad label it is the constant's low byte.
   unfoldable pub bad : ℕ → ℕ → Bool
-  bad code i = getD (false ∷ false ∷ false ∷ bad3 i ∷ bad4 i ∷ bad5 i ∷ bad6 i ∷ bad7 i ∷ []) code false
+  bad code i = getD (false ∷ false ∷ false ∷ bad3 i ∷ bad4 i ∷ bad5 i ∷ bad6 i ∷ bad7 i ∷ []) code (eqb code 19 && bad19 i)
 
-  -- The position that a code carries: with 3 to 7 the lowest that is bad for it; 1, 2 and no code carry 0.
+  -- The position that a code carries: with 3 to 7 and 19 the lowest that is bad for it; 1, 2 and no code carry 0.
   unfoldable pub positionOf : ℕ → ℕ
   positionOf code = cond (ltb code 3) 0 (lowest 510 (bad code))
 
@@ -198,11 +216,11 @@ contents c =
 unfoldable pub blockOf : Case → List ℕ
 blockOf c = contents c ++ two (check (contents c))
 
--- A case is sound if it gets none of 3 to 7.
+-- A case is sound if it gets none of 3 to 7 and no 19.
 abbrev pub Sound : Case → Type 0
 Sound c = firstOf (faults (contents c)) ≡ 0
 
--- The code of bytes to be sealed: 1 on their length, then 3 to 7.
+-- The code of bytes to be sealed: 1 on their length, then 3 to 7 and 19.
 unfoldable pub sealCode : List ℕ → ℕ
 sealCode s = firstOf (1 when not (eqb (length s) 512) ∷ faults s)
 
@@ -213,7 +231,7 @@ sealFault s = faultOf s (sealCode s)
 unfoldable pub sealed : List ℕ → List ℕ
 sealed s = cond (eqb (sealCode s) 0) (take 510 s ++ two (check s)) (replicate (length s) 0)
 
--- The code of a case to be written into a buffer of a size: 1 on the buffer, then 3 to 7 on the bytes that the case would have.
+-- The code of a case to be written into a buffer of a size: 1 on the buffer, then 3 to 7 and 19 on the bytes that the case would have.
 unfoldable pub writeCode : Case → ℕ → ℕ
 writeCode c size = firstOf (1 when not (eqb size 512) ∷ faults (contents c))
 

@@ -1,5 +1,5 @@
 -- An instruction's six bytes: op, d, a, b, then a two-byte constant. Assumes nothing.
-use mathlib.Core.Bool.{Bool, false, not}
+use mathlib.Core.Bool.{Bool, true, false, not}
 use mathlib.Core.List.{List, [], _∷_}
 use Prim.Native.Nat.{ℕ, zero, suc, _/_, _%_}
 use lib.Dec.{eqb, ltb, leb}
@@ -9,43 +9,61 @@ use Rattle.cases.specs.declared.Instr.the-variants.{Empty, Read, Write, 
 use Rattle.cases.specs.declared.Expr.{Expr}
 use Rattle.cases.specs.declared.Expr.the-variants.{Constant, Sum, Difference, Equal}
 
--- What a byte after the op may be: zero, a register, any byte, the low byte of a label.
+-- What a byte after the op may be: zero, the register assigned, a register read, any byte, the low byte of a label.
 pub data Field : Type 0 where
-  zeroed register free label : Field
+  zeroed assigned read free label : Field
 
 -- The five bytes after each op from 0 to 10: d, a, b and the constant's low and high byte.
 abbrev pub fields : List (List Field)
 fields =
     []
-    ∷ (register ∷ register ∷ zeroed ∷ zeroed ∷ zeroed ∷ [])
-    ∷ (zeroed ∷ register ∷ register ∷ zeroed ∷ zeroed ∷ [])
-    ∷ (register ∷ zeroed ∷ zeroed ∷ free ∷ free ∷ [])
-    ∷ (register ∷ register ∷ register ∷ zeroed ∷ zeroed ∷ [])
-    ∷ (register ∷ register ∷ register ∷ zeroed ∷ zeroed ∷ [])
-    ∷ (register ∷ register ∷ register ∷ zeroed ∷ zeroed ∷ [])
-    ∷ (zeroed ∷ register ∷ zeroed ∷ label ∷ free ∷ [])
+    ∷ (assigned ∷ read ∷ zeroed ∷ zeroed ∷ zeroed ∷ [])
+    ∷ (zeroed ∷ read ∷ read ∷ zeroed ∷ zeroed ∷ [])
+    ∷ (assigned ∷ zeroed ∷ zeroed ∷ free ∷ free ∷ [])
+    ∷ (assigned ∷ read ∷ read ∷ zeroed ∷ zeroed ∷ [])
+    ∷ (assigned ∷ read ∷ read ∷ zeroed ∷ zeroed ∷ [])
+    ∷ (assigned ∷ read ∷ read ∷ zeroed ∷ zeroed ∷ [])
+    ∷ (zeroed ∷ read ∷ zeroed ∷ label ∷ free ∷ [])
     ∷ (zeroed ∷ zeroed ∷ zeroed ∷ label ∷ free ∷ [])
-    ∷ (zeroed ∷ register ∷ zeroed ∷ zeroed ∷ zeroed ∷ [])
-    ∷ (zeroed ∷ register ∷ zeroed ∷ zeroed ∷ zeroed ∷ [])
+    ∷ (zeroed ∷ read ∷ zeroed ∷ zeroed ∷ zeroed ∷ [])
+    ∷ (zeroed ∷ read ∷ zeroed ∷ zeroed ∷ zeroed ∷ [])
     ∷ []
 
 -- What byte k after this op may be; all zero after a bad op.
 abbrev pub fieldAt : ℕ → ℕ → Field
 fieldAt op k = getD (getD fields op []) k zeroed
 
--- The number that stands for each field in a table.
+-- The field that a number stands for in a table.
 abbrev pub fieldOf : ℕ → Field
 fieldOf zero = zeroed
-fieldOf (suc zero) = register
-fieldOf (suc (suc zero)) = free
-fieldOf (suc (suc (suc n))) = label
+fieldOf (suc zero) = assigned
+fieldOf (suc (suc zero)) = read
+fieldOf (suc (suc (suc zero))) = free
+fieldOf (suc (suc (suc (suc n)))) = label
 
 -- The byte v is bad there; the label is w, of a processor with n instructions.
 abbrev pub badField : Field → ℕ → ℕ → ℕ → Bool
 badField zeroed n v w = not (eqb v 0)
-badField register n v w = leb 8 v
+badField assigned n v w = leb 8 v
+badField read n v w = leb 8 v
 badField free n v w = false
 badField label n v w = ltb n w
+
+-- The byte names a register that is assigned.
+abbrev pub isAssigned : Field → Bool
+isAssigned zeroed = false
+isAssigned assigned = true
+isAssigned read = false
+isAssigned free = false
+isAssigned label = false
+
+-- The byte names a register that is read.
+abbrev pub isRead : Field → Bool
+isRead zeroed = false
+isRead assigned = false
+isRead read = true
+isRead free = false
+isRead label = false
 
 -- The instruction of an op and its fields, ops 0 to 10 in order.
 abbrev pub instrOf : ℕ → ℕ → ℕ → ℕ → ℕ → Instr

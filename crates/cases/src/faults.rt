@@ -1,13 +1,15 @@
-// Which bytes of a block are bad for codes 3 to 7, and the first code with its lowest bad position.
+// Which bytes of a block are bad for codes 3 to 7 and 19, and the first code with its lowest bad position.
 use crate::Fault;
 use crate::bytes::byte;
 use crate::bytes::number;
 use crate::bytes::word;
 ghost use mathlib.Core.Path.{_≡_};
-ghost use Prim.Native.Nat.{_-_, _≤_, _<_};
+ghost use mathlib.Core.Bool.{false};
+ghost use mathlib.Core.List.{List};
+ghost use Prim.Native.Nat.{ℕ, _-_, _≤_, _<_};
 ghost use Rattle.words.specs.Refusals.{firstOf};
 ghost use Rattle.cases.specs.Instruction.{badField, fieldAt, fieldOf};
-ghost use Rattle.cases.specs.Block.{within as withinOf, marked as isMarked, noProc, noLoc, used as isUsed, bad3 as isBad3, bad4 as isBad4, zero5 as mustBeZero5, bad5 as isBad5, badByte, bad6 as isBad6, bad7 as isBad7, bad as isBad, lowest as lowestOf, faults, faultOf};
+ghost use Rattle.cases.specs.Block.{within as withinOf, marked as isMarked, noProc, noLoc, used as isUsed, bad3 as isBad3, bad4 as isBad4, zero5 as mustBeZero5, bad5 as isBad5, badByte, bad6 as isBad6, bad7 as isBad7, assignsAt, isSet, readsAt, bad19 as isBad19, bad as isBad, lowest as lowestOf, faults, faultOf};
 
 // How far position i lies past another, 0 before it.
 fn past(from: usize, i: usize) -> usize
@@ -96,7 +98,7 @@ fn bad5(block: &[u8], i: usize) -> bool
     zero5(block, i) & marked(block, i)
 }
 
-// The five bytes after each op from 0 to 10: 0 zero, 1 a register, 2 any byte, 3 the low byte of a label.
+// The five bytes after each op from 0 to 10: 0 zero, 1 the register assigned, 2 a register read, 3 any byte, 4 the low byte of a label.
 const FIELDS: [u8; 55] = [
     // 0: no instruction
     0,
@@ -106,61 +108,61 @@ const FIELDS: [u8; 55] = [
     0,
     // 1: read
     1,
-    1,
+    2,
     0,
     0,
     0,
     // 2: write
     0,
-    1,
-    1,
+    2,
+    2,
     0,
     0,
     // 3: constant
     1,
     0,
     0,
-    2,
-    2,
+    3,
+    3,
     // 4: sum
     1,
-    1,
-    1,
+    2,
+    2,
     0,
     0,
     // 5: difference
     1,
-    1,
-    1,
+    2,
+    2,
     0,
     0,
     // 6: equal
     1,
-    1,
-    1,
+    2,
+    2,
     0,
     0,
     // 7: branch
     0,
-    1,
-    0,
-    3,
     2,
+    0,
+    4,
+    3,
     // 8: goto
     0,
     0,
     0,
+    4,
     3,
-    2,
     // 9: acquire
     0,
-    1,
+    2,
     0,
     0,
     0,
     // 10: release
     0,
-    1,
+    2,
     0,
     0,
     0,
@@ -181,7 +183,9 @@ fn field(op: usize, k: usize) -> u8
 fn bad_field(field: u8, n: usize, v: usize, w: usize) -> bool
     ensures { λ r. ⌜ r ≡ badField (fieldOf field) n v w ⌝ }
 {
-    ((field == 0) & !(v == 0)) | ((field == 1) & (8 <= v)) | ((2 < field) & (n < w))
+    ((field == 0) & !(v == 0))
+        | (((field == 1) | (field == 2)) & (8 <= v))
+        | ((3 < field) & (n < w))
 }
 
 // The byte at position i of a slot with this op, of a processor with n instructions, is bad.
@@ -217,9 +221,57 @@ fn bad7(block: &[u8], i: usize) -> bool
     ((within(92, 380, i) & !used) | within(380, 510, i)) & marked(block, i)
 }
 
+// Instruction n of processor p is used and assigns register r.
+fn assigns_at(block: &[u8], p: usize, n: usize, r: usize) -> bool
+    requires { ⌜ (p < 510) × (n < 12) ⌝ }
+    ensures { λ x. ⌜ x ≡ assignsAt (now (block .entry)) p n r ⌝ }
+{
+    let at = 72 * p + 6 * n;
+    used(block, p, n) & (field(number(block, 92 + at), 0) == 1) & (number(block, 93 + at) == r)
+}
+
+// Register r of processor p is set: by a preset, or by a used instruction of the processor.
+fn is_set(block: &[u8], p: usize, r: usize) -> bool
+    requires { ⌜ p < 510 ⌝ }
+    ensures { λ x. ⌜ x ≡ isSet (now (block .entry)) p r ⌝ }
+{
+    let mask = number(block, 8 + p) as u64;
+    let mut set = words::has(mask, r);
+    let mut n: usize = 0;
+    while n < 12 {
+        set = set | assigns_at(block, p, n, r);
+        n += 1;
+    }
+    set
+}
+
+// The byte at position i, of a slot with this op, names a register that the instruction reads.
+fn reads_at(op: usize, i: usize) -> bool
+    ensures { λ x. ⌜ x ≡ readsAt op i ⌝ }
+{
+    let k = past(92, i) % 6;
+    if k == 0 {
+        return false;
+    }
+    field(op, k - 1) == 2
+}
+
+// Code 19: registers that are read and not set.
+fn bad19(block: &[u8], i: usize) -> bool
+    requires { ⌜ i < 510 ⌝ }
+    ensures { λ x. ⌜ x ≡ isBad19 (now (block .entry)) i ⌝ }
+{
+    let p = past(92, i) / 72;
+    let op = number(block, past(past(92, i) % 6, i));
+    if within(92, 380, i) & used(block, p, past(92, i) % 72 / 6) & reads_at(op, i) {
+        return !is_set(block, p, number(block, i));
+    }
+    false
+}
+
 // Position i is bad for a code.
 fn bad(block: &[u8], code: u8, i: usize) -> bool
-    requires { ⌜ (3 ≤ code) × (code < 8) × (i < 510) ⌝ }
+    requires { ⌜ (3 ≤ code) × (i < 510) ⌝ }
     ensures { λ r. ⌜ r ≡ isBad (now (block .entry)) code i ⌝ }
 {
     match code {
@@ -227,17 +279,46 @@ fn bad(block: &[u8], code: u8, i: usize) -> bool
         4 => bad4(block, i),
         5 => bad5(block, i),
         6 => bad6(block, i),
-        _ => bad7(block, i),
+        7 => bad7(block, i),
+        _ => (code == 19) & bad19(block, i),
+    }
+}
+
+// The first position that a code speaks of.
+fn start_of(code: u8) -> usize
+    requires { ⌜ 3 ≤ code ⌝ }
+    ensures { λ r. ⌜ (r ≤ 510) × ((s : List ℕ) (k : ℕ) → k < r → isBad s code k ≡ false) ⌝ }
+{
+    match code {
+        3 => 0,
+        4 => 4,
+        5 => 8,
+        _ => 92,
+    }
+}
+
+// The first position after those that a code speaks of.
+fn end_of(code: u8) -> usize
+    requires { ⌜ 3 ≤ code ⌝ }
+    ensures { λ r. ⌜ (r ≤ 510) × ((s : List ℕ) (k : ℕ) → r ≤ k → k < 510 → isBad s code k ≡ false) ⌝ }
+{
+    match code {
+        3 => 4,
+        4 => 8,
+        5 => 92,
+        7 => 510,
+        _ => 380,
     }
 }
 
 // The lowest position that is bad for a code, 510 where none is.
 fn lowest(block: &[u8], code: u8) -> usize
-    requires { ⌜ (3 ≤ code) × (code < 8) ⌝ }
+    requires { ⌜ 3 ≤ code ⌝ }
     ensures { λ r. ⌜ r ≡ lowestOf 510 (isBad (now (block .entry)) code) ⌝ }
 {
-    let mut i: usize = 0;
-    while i < 510 {
+    let end = end_of(code);
+    let mut i = start_of(code);
+    while i < end {
         if bad(block, code, i) {
             return i;
         }
@@ -246,7 +327,7 @@ fn lowest(block: &[u8], code: u8) -> usize
     510
 }
 
-// The first of codes 3 to 7 with a bad position, and its lowest.
+// The first of codes 3 to 7 and 19 with a bad position, and its lowest.
 pub fn judge(block: &[u8]) -> Fault
     ensures { λ r. ⌜ r ≡ faultOf (now (block .entry)) (firstOf (faults (now (block .entry)))) ⌝ }
 {
@@ -257,6 +338,10 @@ pub fn judge(block: &[u8]) -> Fault
             return Fault { code, position };
         }
         code += 1;
+    }
+    let position = lowest(block, 19);
+    if position < 510 {
+        return Fault { code: 19, position };
     }
     Fault {
         code: 0,

@@ -17,7 +17,7 @@ ghost use Rattle.words.specs.Refusals.{firstOf};
 ghost use Rattle.cases.specs.Instruction.{instrOf};
 ghost use Rattle.cases.specs.Block.{byte as byteOf, word as wordOf, refusals, faultOf, slotAt, caseOf, nothing as nothingOf};
 
-// The first of codes 1 to 7 that a block gets, with its position.
+// The first of codes 1 to 7 and 19 that a block gets, with its position.
 pub fn refusal(block: &[u8]) -> Fault
     ensures { λ r. ⌜ r ≡ faultOf (now (block .entry)) (firstOf (refusals (now (block .entry)))) ⌝ }
 {

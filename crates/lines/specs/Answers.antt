@@ -1,14 +1,14 @@
 -- Document 01, 'How it is called' and the header of a list: the lines that hold codes and counts. Assumes nothing.
-use mathlib.Core.Bool.{Bool, cond, _&&_}
+use mathlib.Core.Bool.{Bool, cond, _&&_, _||_}
 use mathlib.Core.List.{List, _++_}
 use Prim.Native.Nat.{ℕ}
-use lib.Dec.{ltb}
+use lib.Dec.{eqb, ltb}
 use Rattle.lines.specs.Quoted.{quoted}
 use Rattle.lines.specs.Decimal.{decimal}
 
--- A code of the block: 1 to 7.
+-- A code of the block: 1 to 7 and 19.
 abbrev pub ofBlock : ℕ → Bool
-ofBlock code = ltb 0 code && ltb code 8
+ofBlock code = (ltb 0 code && ltb code 8) || eqb code 19
 
 -- The end of a line. Request 02: '`replay` and `outcomes` end a block code's line with ` at ` and the position.'
 unfoldable pub ending : ℕ → ℕ → List ℕ

@@ -11,7 +11,7 @@ ghost use Rattle.lines.specs.Laid.{Laid};
 fn of_block(code: u8) -> bool
     ensures { λ r. ⌜ r ≡ ofBlock code ⌝ }
 {
-    (0 < code) & (code < 8)
+    ((0 < code) & (code < 8)) | (code == 19)
 }
 
 // The end of a line: a block's code is followed by its position.

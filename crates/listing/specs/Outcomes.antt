@@ -13,7 +13,7 @@ use Rattle.listing.specs.declared.Answer.{Answer}
 abbrev pub answerOf : Answer → Listed
 answerOf a = record { code = a .code; count = a .count; cut = a .cut }
 
--- Codes 1 to 7 of the block, and 10.
+-- The codes of the block, and 10.
 unfoldable pub listRefusals : List ℕ → ℕ → List Refusal
 listRefusals block bound = refusals block ++ (10 when ltb 96 bound ∷ [])
 

@@ -17,7 +17,7 @@ use Rattle.cases.specs.declared.Instr.the-variants.{Empty}
 use Rattle.cases.specs.Instruction.{instrOf, fieldAt, badField}
 use Rattle.cases.specs.Case.{countOf, instrAt}
 use Rattle.cases.specs.Block.{within, byte, word, used, bad3, bad4, faults, slotAt, caseOf}
-use Rattle.cases.proofs.Held.{Clean, clean, at, used-op, used-fields, held-is}
+use Rattle.cases.proofs.Held.{Clean, clean, few-procs, at, used-op, used-fields, held-is}
 use Rattle.machine.specs.Fit.{Fine, Fit}
 
 -- an instruction none of whose bytes is bad
@@ -42,19 +42,11 @@ module _ (n d a b k : ℕ) (low high : ℕ) (w : ℕ → ℕ) (few : n ≤ 12) (
   fine (suc (suc (suc (suc (suc (suc (suc (suc (suc (suc zero)))))))))) p q h = leb-false 8 a (h 1 (lit< tt))
   fine (suc (suc (suc (suc (suc (suc (suc (suc (suc (suc (suc op))))))))))) p q h = absurd (omega arith)
 
-first-of : (x : Bool) → (x || false || false || false) ≡ false → x ≡ false
-first-of true h = absurd (false≢true (sym h))
-first-of false h = refl
-
 second-of : (x : Bool) → (x || false || false) ≡ false → x ≡ false
 second-of true h = absurd (false≢true (sym h))
 second-of false h = refl
 
 module _ (s : List ℕ) (ok : Clean s) where
-  few-procs : byte s 0 ≤ 4
-  unfolding bad3
-  few-procs = omega (arith, ltb-false 4 (byte s 0) (or-none (eqb (byte s 0) 0) (ltb 4 (byte s 0)) (first-of (eqb (byte s 0) 0 || ltb 4 (byte s 0)) (ok .third 0 (lit< tt))) .1))
-
   few-locs : byte s 1 ≤ 8
   unfolding bad3
   few-locs = omega (arith, ltb-false 8 (byte s 1) (or-none (eqb (byte s 1) 0) (ltb 8 (byte s 1)) (second-of (eqb (byte s 1) 0 || ltb 8 (byte s 1)) (ok .third 1 (lit< tt))) .1))
@@ -103,7 +95,7 @@ module _ (s : List ℕ) (ok : Clean s) where
   clean-fit : Fit (caseOf s)
   unfolding caseOf
   clean-fit = record {
-    procs = few-procs;
+    procs = few-procs s ok;
     locs = few-locs;
     counts = few-instrs;
     fine = fine-at;

@@ -19,7 +19,7 @@ use Rattle.replaying.specs.declared.Replayed.{Replayed}
 abbrev pub lengthRefusals : ℕ → ℕ → List Refusal
 lengthRefusals schedule size = 8 when (not (eqb (schedule % 4) 0) || ltb 384 schedule) ∷ 9 when not (eqb size 104) ∷ []
 
--- Codes 1 to 9.
+-- The codes of the block, then 8 and 9.
 unfoldable pub replayRefusals : List ℕ → List ℕ → ℕ → List Refusal
 replayRefusals block schedule size = refusals block ++ lengthRefusals (length schedule) size
 

@@ -164,7 +164,7 @@ fn show(c: Case, m: Machine, result: &mut [u8])
     fill(c, registers, places, acts, issued, result);
 }
 
-// The first of codes 1 to 9: code is the block's own.
+// The first of the codes of a block, 8 and 9: code is the block's own.
 fn refusal(code: u8, schedule: usize, size: usize) -> u8
     ensures { λ r. ⌜ r ≡ cond (eqb code 0) (firstOf (lengthRefusals schedule size)) code ⌝ }
 {

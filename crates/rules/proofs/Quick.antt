@@ -12,7 +12,7 @@ use Rattle.words.specs.Small.{someBelow}
 use Rattle.words.proofs.Bools.{and-both, and-right, or-none, decide, below-cases}
 use Rattle.words.proofs.Passed.{unpassed}
 use Rattle.cases.specs.declared.Case.{Case}
-use Rattle.cases.specs.Block.{within, procAt, numberAt, used, bad3, bad4, bad5, bad6, bad7, faults, contents, Sound}
+use Rattle.cases.specs.Block.{within, procAt, numberAt, used, bad3, bad4, bad5, bad6, bad7, bad19, faults, contents, Sound}
 
 -- some byte of the list, its first at position i, is not zero where the test says that it must be
 abbrev walk : (ℕ → Bool) → ℕ → List ℕ → Bool
@@ -42,7 +42,7 @@ none-marked s h = step (decide (someBelow 510 (bad7 s)))
 unfoldable pub quick : Case → Bool
 quick c =
     let s = contents c in
-    not (someBelow 510 (bad3 s)) && (not (someBelow 510 (bad4 s)) && (not (someBelow 510 (bad5 s)) && (not (someBelow 510 (bad6 s)) && not (walk (unused s) 0 s))))
+    not (someBelow 510 (bad3 s)) && (not (someBelow 510 (bad4 s)) && (not (someBelow 510 (bad5 s)) && (not (someBelow 510 (bad6 s)) && (not (walk (unused s) 0 s) && not (someBelow 510 (bad19 s))))))
 
 pub quick-sound : (c : Case) → quick c ≡ true → Sound c
 unfolding quick
@@ -52,4 +52,5 @@ quick-sound c h =
     let b = and-both (not (someBelow 510 (bad4 s))) _ (a .1) in
     let d = and-both (not (someBelow 510 (bad5 s))) _ (b .1) in
     let e = and-both (not (someBelow 510 (bad6 s))) _ (d .1) in
-    unpassed (faults s) (not-true _ (a .0), (not-true _ (b .0), (not-true _ (d .0), (not-true _ (e .0), (none-marked s (not-true _ (e .1)), tt)))))
+    let f = and-both (not (walk (unused s) 0 s)) _ (e .1) in
+    unpassed (faults s) (not-true _ (a .0), (not-true _ (b .0), (not-true _ (d .0), (not-true _ (e .0), (none-marked s (not-true _ (f .0)), (not-true _ (f .1), tt))))))

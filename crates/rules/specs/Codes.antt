@@ -3,7 +3,8 @@ use mathlib.Core.List.{List, [], _∷_, _++_}
 use Prim.Native.Nat.{ℕ}
 use lib.ListN.{replicate}
 use Rattle.cases.specs.declared.Instr.{Instr}
-use Rattle.cases.specs.declared.Instr.the-variants.{Read, Write, Branch, Goto, Acquire, Release}
+use Rattle.cases.specs.declared.Instr.the-variants.{Read, Write, Local, Branch, Goto, Acquire, Release}
+use Rattle.cases.specs.declared.Expr.the-variants.{Constant}
 use Rattle.cases.specs.declared.Case.{Case}
 use Rattle.rules.specs.Step.{Step, issue, commit, stepOf}
 use Rattle.rules.specs.Building.{plain, alone}
@@ -12,6 +13,10 @@ use Rattle.rules.specs.Claims.{Claim, replays}
 -- Processor 0 can issue for ever, processor 1 has these instructions.
 abbrev pub beside : List Instr → Case
 beside is = plain 1 ((Goto 0 ∷ []) ∷ is ∷ [])
+
+-- Register 3 is set, after its use.
+abbrev pub late : Instr
+late = Local 3 (Constant 0)
 
 -- n issues of processor 0, then one of processor 1.
 abbrev pub following : ℕ → List Step
@@ -32,15 +37,15 @@ formed =
     ∷ []
 
 -- '21 place counter undefined; 22 at the end; 23 48 actions issued already; 24 address register of a read or write undefined; 25 its
--- value not below M.' Register 3 is undefined, register 1 is M.
+-- value not below M.' Register 3 is set too late or by its own reader, so it is undefined; register 1 is M.
 abbrev pub issues : List Claim
 issues =
     replays (beside (Branch 0 0 ∷ [])) (issue 1 ∷ following 0) 1 21
     ∷ replays (beside (Branch 0 0 ∷ [])) (issue 1 ∷ following 47) 48 21
     ∷ replays (beside []) (following 48) 48 22
-    ∷ replays (beside (Read 2 3 ∷ [])) (following 48) 48 23
+    ∷ replays (beside (Read 3 3 ∷ [])) (following 48) 48 23
     ∷ replays (beside (Read 2 1 ∷ [])) (following 48) 48 23
-    ∷ replays (beside (Write 3 0 ∷ [])) (following 0) 0 24
+    ∷ replays (beside (Write 3 0 ∷ late ∷ [])) (following 0) 0 24
     ∷ replays (beside (Write 1 0 ∷ [])) (following 0) 0 25
     ∷ []
 
@@ -51,7 +56,7 @@ queued =
     ∷ replays (beside []) (issue 0 ∷ commit 1 0 0 ∷ []) 1 26
     ∷ replays (alone (Goto 0 ∷ [])) (issue 0 ∷ commit 0 0 0 ∷ commit 0 0 0 ∷ []) 2 26
     ∷ replays (alone (Acquire 0 ∷ Acquire 0 ∷ [])) (second 1) 2 27
-    ∷ replays (alone (Acquire 0 ∷ Acquire 3 ∷ [])) (second 0) 2 28
+    ∷ replays (alone (Acquire 0 ∷ Acquire 3 ∷ late ∷ [])) (second 0) 2 28
     ∷ replays (alone (Acquire 0 ∷ Acquire 1 ∷ [])) (second 0) 2 28
     ∷ replays (alone (Goto 1 ∷ Release 0 ∷ [])) (second 0) 2 28
     ∷ replays (alone (Acquire 0 ∷ Read 2 0 ∷ [])) (second 9) 2 28
@@ -63,7 +68,7 @@ queued =
 -- while this processor does not; 32 the named item is not visible': not issued, not a write, of another location.
 abbrev pub commits : List Claim
 commits =
-    replays (alone (Release 3 ∷ [])) (issue 0 ∷ commit 0 0 0 ∷ []) 1 29
+    replays (alone (Release 3 ∷ late ∷ [])) (issue 0 ∷ commit 0 0 0 ∷ []) 1 29
     ∷ replays (alone (Release 1 ∷ [])) (issue 0 ∷ commit 0 0 0 ∷ []) 1 30
     ∷ replays (alone (Release 0 ∷ [])) (issue 0 ∷ commit 0 0 0 ∷ []) 1 31
     ∷ replays (plain 1 ((Acquire 0 ∷ []) ∷ (Acquire 0 ∷ []) ∷ [])) (issue 0 ∷ commit 0 0 0 ∷ issue 1 ∷ commit 1 1 0 ∷ []) 3 31

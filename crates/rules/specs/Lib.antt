@@ -6,6 +6,7 @@ pub mod Commit
 pub mod Step
 pub mod Result
 pub mod Womm
+pub mod Origin
 pub mod Building
 pub mod Claims
 pub mod Shapes

@@ -2,7 +2,7 @@
 ghost use lib.ListN.{length};
 ghost use Rattle.womm.specs.Exports.{ReadAs, WrittenAs, ReplayedAs, ListedAs};
 
-// Reads a block: 0 where it holds a case, else the first of codes 1 to 7; and the position that the code carries.
+// Reads a block: 0 where it holds a case, else the first of codes 1 to 7 and 19; and the position that the code carries.
 #[no_mangle]
 pub extern "C" fn womm_read(block: &[u8], position: &mut usize) -> u32
     ensures { λ r. ⌜ ReadAs (now (block .entry)) r (now (position .exit)) ⌝ }

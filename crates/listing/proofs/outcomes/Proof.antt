@@ -1,4 +1,4 @@
--- Codes 1 to 7 and 10 first, then the list of the case that was read. Assumes nothing.
+-- The block's codes and 10 first, then the list of the case that was read. Assumes nothing.
 use Rattle.listing.proofs.Refusals.{read-fit, refused-block, refused-bound, listed-case}
 use borrow.Author.Needs.{needs}
 use Rattle.listing.proofs.outcomes.Statement.{statement}

@@ -15,7 +15,7 @@ use borrow.Author.Needs.{needs}
 use Rattle.replaying.proofs.replay.Statement.{statement}
 use Rattle.replaying.proofs.replay.Tie as tie
 
--- the code that refusal gives is the first of codes 1 to 9
+-- the code that refusal gives is the first that applies
 code-is : (block schedule : List ℕ) (size n : ℕ) (r : CaseRead) → r ≡ readOf block → n ≡ cond (eqb (r .code) 0) (firstOf (lengthRefusals (length schedule) size)) (r .code) → n ≡ all block schedule size
 code-is block schedule size n r read h = h ∙ ap (λ (k : ℕ). cond (eqb k 0) (firstOf (lengthRefusals (length schedule) size)) k) (read-code block read)
 

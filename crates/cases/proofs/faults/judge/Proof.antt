@@ -3,7 +3,7 @@ use Prim.Native.Nat.{_≤_, _-_}
 use native.Mathlib.Numerals.{add-one}
 use native.Mathlib.Omega.{arith}
 use Rattle.cases.specs.Block.{lowest, bad}
-use Rattle.cases.proofs.Lowest.{Passed, passed-start, passed-more, judge-found, judge-none}
+use Rattle.cases.proofs.Lowest.{Passed, passed-start, passed-more, judge-found, judge-19, judge-none}
 use borrow.Author.Needs.{needs}
 use Rattle.cases.proofs.faults.judge.Statement.{statement}
 use Rattle.cases.proofs.faults.judge.Tie as tie
@@ -38,8 +38,18 @@ loop-again c =
     let h : 510 ≤ lowest 510 (bad s (at .loop .code)) = omega (arith, c .before .lowest .ensures) in
     (search needs, search needs, rw (add-one (at .loop .code)) (passed-more s (at .loop .code) (at .loop .inv .2) h))
 
+lowest-requires-2 : tie.Need-lowest-requires-2 Inv-loop μ-loop
+lowest-requires-2 c κs = search needs
+
 returns-2 : tie.Need-returns-2 Inv-loop μ-loop
-returns-2 c = let at = c .before in judge-none (at .before .before .args .block .now) (at .loop .code) (c .loop-test .left) (at .loop .inv .1) (at .loop .inv .2)
+returns-2 c =
+    let at = c .before .before .before in
+    judge-19 (at .before .before .args .block .now) (at .loop .code) (c .before .before .loop-test .left) (at .loop .inv .1) (at .loop .inv .2) (c .before .lowest2 .result) (c .before .lowest2 .ensures) (c .if2 .taken)
+
+returns-3 : tie.Need-returns-3 Inv-loop μ-loop
+returns-3 c =
+    let at = c .before .before .before in
+    judge-none (at .before .before .args .block .now) (at .loop .code) (c .before .before .loop-test .left) (at .loop .inv .1) (at .loop .inv .2) (c .before .lowest2 .result) (c .before .lowest2 .ensures) (c .if2 .left)
 
 pub judge-spec : {M : Type 1} → statement M
 judge-spec =
@@ -53,4 +63,6 @@ judge-spec =
     add-code
     loop-less
     loop-again
-    returns-2)
+    lowest-requires-2
+    returns-2
+    returns-3)

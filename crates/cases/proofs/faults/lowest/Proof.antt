@@ -1,9 +1,10 @@
--- No position passed so far is bad; the measure is the number of positions that are left.
+-- No position passed so far is bad, and none outside those that the code speaks of; the measure is the number of positions that are left.
 use mathlib.Core.Path.{_≡_, sym, _∙_}
 use mathlib.Core.Bool.{false}
 use Prim.Native.Nat.{ℕ, _≤_, _<_, _-_}
 use native.Mathlib.Omega.{arith}
-use borrow.Author.Count.{below-none, below-more}
+use native.Mathlib.Decide.{decLt}
+use borrow.Author.Count.{below-more}
 use Rattle.cases.specs.Block.{bad}
 use Rattle.cases.proofs.Lowest.{lowest-is, none-lowest}
 use borrow.Author.Needs.{needs}
@@ -11,13 +12,19 @@ use Rattle.cases.proofs.faults.lowest.Statement.{statement}
 use Rattle.cases.proofs.faults.lowest.Tie as tie
 
 abbrev Inv-loop : tie.InvT-loop
-Inv-loop block code i₀ i = (i ≤ 510) × ((k : ℕ) → k < i → bad block code k ≡ false)
+Inv-loop block code end i₀ i = (i ≤ 510) × ((k : ℕ) → k < i → bad block code k ≡ false)
 
 abbrev μ-loop : tie.MeasureT-loop
-μ-loop block code i₀ i = 510 - i
+μ-loop block code end i₀ i = end - i
+
+end-of-requires : tie.Need-end-of-requires Inv-loop μ-loop
+end-of-requires c κs = search needs
+
+start-of-requires : tie.Need-start-of-requires Inv-loop μ-loop
+start-of-requires c κs = search needs
 
 loop-holds : tie.Need-loop-holds Inv-loop μ-loop
-loop-holds c = (search needs, below-none _)
+loop-holds c = (c .start-of .ensures .0, c .start-of .ensures .1 (c .before .before .before .args .block .now))
 
 bad-requires : tie.Need-bad-requires Inv-loop μ-loop
 bad-requires c κs = search needs
@@ -25,8 +32,8 @@ bad-requires c κs = search needs
 returns : tie.Need-returns Inv-loop μ-loop
 returns c =
     let at = c .before .before .before in
-    let a = at .before .before .args in
-    lowest-is 510 (bad (a .block .now) (a .code)) (at .loop .i) (omega arith) (at .loop .inv .1) (λ h. sym (c .before .bad .ensures) ∙ c .if1 .taken)
+    let a = at .before .before .before .before .args in
+    lowest-is 510 (bad (a .block .now) (a .code)) (at .loop .i) (at .loop .inv .0) (at .loop .inv .1) (λ h. sym (c .before .bad .ensures) ∙ c .if1 .taken)
 
 add-i : tie.Need-add-i Inv-loop μ-loop
 add-i c = search needs
@@ -40,10 +47,22 @@ loop-again c = (search needs, below-more _ _ (c .before .before .before .loop .i
 returns-2 : tie.Need-returns-2 Inv-loop μ-loop
 returns-2 c =
     let at = c .before in
-    let a = at .before .before .args in
-    none-lowest 510 (bad (a .block .now) (a .code)) (λ k h. at .loop .inv .1 k (omega arith))
+    let end = at .before .before in
+    let a = end .before .before .args in
+    none-lowest 510 (bad (a .block .now) (a .code)) (λ k h. elim (decLt k (at .loop .i)) [ yes b ↦ at .loop .inv .1 k b | no g ↦ end .end-of .ensures .1 (a .block .now) k (omega arith) h ])
 
 pub lowest-spec : {M : Type 1} → statement M
 lowest-spec =
     tie.close
-    (tie.spec Inv-loop μ-loop loop-holds bad-requires returns add-i loop-less loop-again returns-2)
+    (tie.spec
+    Inv-loop
+    μ-loop
+    end-of-requires
+    start-of-requires
+    loop-holds
+    bad-requires
+    returns
+    add-i
+    loop-less
+    loop-again
+    returns-2)
