@@ -6,8 +6,8 @@ mod words;
 
 use std::process::ExitCode;
 
-use model::{Case, Outcome};
-use womm::Listing;
+use model::Case;
+use womm::{clause, Answer, Listing};
 
 /// What the receiver reads as flag and as length when the baseline is lost.
 const LOST: [u16; 2] = [1, 0];
@@ -54,20 +54,24 @@ fn list(case: &Case, bound: u32, expected: &[[u16; 2]]) -> Result<(), String> {
     Ok(())
 }
 
-/// Prints a schedule that loses the baseline: found by the bench's own search, confirmed by the library.
+/// Prints the lowest schedule that loses the baseline, and what its replay leaves.
 fn lost_baseline(case: &Case) -> Result<(), String> {
-    let lost = |outcome: &Outcome| words::seen(outcome) == LOST.map(Some);
-    let schedule = states::find(case, 8, lost).ok_or("no schedule was found that loses the baseline")?;
+    let lost = [clause(1, 2).is(LOST[0]), clause(1, 3).is(LOST[1])];
+    let answer = womm::ask(case, 8, &lost).map_err(|refusal| format!("refused: {refusal}"))?;
+    let Answer::Yes(schedule) = answer else { return Err("no schedule loses the baseline".to_string()) };
     println!("One way to the lost baseline, step by step:");
     for (number, line) in (1..).zip(words::steps(&schedule)) {
         println!("    {number}. {line}");
     }
     let replay = womm::replay(case, &schedule).map_err(|refusal| format!("refused: {refusal}"))?;
     let whole = replay.stopped.is_none() && replay.ending.queues == [0; 4] && replay.ending.places[..2] == [Some(2); 2];
-    if !whole || !lost(&replay.ending.outcome) {
+    if !whole || words::seen(&replay.ending.outcome) != LOST.map(Some) {
         return Err("the library's replay does not confirm this schedule".to_string());
     }
-    println!("The bench's own search found it; the proved library replayed it: all {} steps are allowed,", replay.steps);
-    println!("both cores are done, and the receiver holds: {}.", words::result(&replay.ending.outcome));
+    println!(
+        "Of all such schedules it is the lowest in byte order. Replayed, all {} steps are allowed, both cores are",
+        replay.steps
+    );
+    println!("done, and the receiver holds: {}.", words::result(&replay.ending.outcome));
     Ok(())
 }

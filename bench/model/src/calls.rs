@@ -1,7 +1,7 @@
 //! The library's calls over plain bytes, and what they answer. With every code that names no byte of the block the
 //! position is 0.
 
-use crate::Refusal;
+use crate::{Clause, Refusal};
 
 /// The answer of reading or writing a block.
 #[derive(Clone, Copy, Debug, PartialEq, Eq)]
@@ -29,6 +29,17 @@ pub struct Replayed {
     pub position: u32,
 }
 
+/// The answer to a wanted result; with yes, its lowest schedule stands in the lent buffer.
+#[derive(Clone, Copy, Debug, PartialEq, Eq)]
+pub struct Asked {
+    pub code: u32,
+    pub yes: bool,
+    /// The schedule's bytes.
+    pub length: u32,
+    pub cut: bool,
+    pub position: u32,
+}
+
 impl Coded {
     /// The answer to a block that was accepted or refused.
     pub fn of(judged: Result<(), Refusal>) -> Coded {
@@ -52,6 +63,22 @@ impl Replayed {
     }
 }
 
+impl Asked {
+    pub fn refused(refusal: Refusal) -> Asked {
+        Asked { code: refusal.code(), yes: false, length: 0, cut: false, position: refusal.position }
+    }
+
+    /// Yes, with a schedule of so many bytes.
+    pub fn yes(length: usize) -> Asked {
+        Asked { code: 0, yes: true, length: length as u32, cut: false, position: 0 }
+    }
+
+    /// No, with the list's own cut mark.
+    pub fn no(cut: bool) -> Asked {
+        Asked { code: 0, yes: false, length: 0, cut, position: 0 }
+    }
+}
+
 /// Judges a block, and puts the check behind a buffer that holds one but for it.
 pub trait Codec {
     fn read(&self, block: &[u8]) -> Coded;
@@ -66,4 +93,9 @@ pub trait Lister {
 /// Replays a schedule.
 pub trait Replayer {
     fn replay(&self, block: &[u8], schedule: &[u8], result: &mut [u8]) -> Replayed;
+}
+
+/// Says whether a wanted result is possible.
+pub trait Asker {
+    fn ask(&self, block: &[u8], bound: u32, clauses: &[Clause], schedule: &mut [u8]) -> Asked;
 }

@@ -4,6 +4,7 @@
 pub mod block;
 mod calls;
 mod case;
+mod clause;
 mod faults;
 mod field;
 mod instr;
@@ -12,14 +13,15 @@ mod reason;
 mod refusal;
 mod schedule;
 
-pub use calls::{Codec, Coded, Listed, Lister, Replayed, Replayer};
+pub use calls::{Asked, Asker, Codec, Coded, Listed, Lister, Replayed, Replayer};
 pub use case::{Case, CaseBuilder, Processor};
+pub use clause::{clause, Clause, Named, CLAUSES};
 pub use instr::{ops, Instr};
 
 pub use outcome::{Ending, Outcome, ENDING, RECORD};
 pub use reason::Reason;
 pub use refusal::Refusal;
-pub use schedule::{schedule, Step};
+pub use schedule::{put_schedule, schedule, steps, Step, SCHEDULE};
 
 /// The sizes of document 01.
 pub const PROCESSORS: usize = 4;

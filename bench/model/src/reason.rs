@@ -15,6 +15,8 @@ pub enum Reason {
     ResultLength,
     Bound,
     Room,
+    Clauses,
+    ScheduleRoom,
     BadStep,
     PlaceUndefined,
     AtEnd,
@@ -33,7 +35,7 @@ pub enum Reason {
 use Reason::*;
 
 /// Each refusal with its code and its document's words, in the order they are tried.
-const TABLE: [(Reason, u32, &str); 25] = [
+const TABLE: [(Reason, u32, &str); 27] = [
     (BlockLength, 1, "length is not 512"),
     (Check, 2, "check"),
     (Sizes, 3, "bytes 0 to 3"),
@@ -46,6 +48,8 @@ const TABLE: [(Reason, u32, &str); 25] = [
     (ResultLength, 9, "result buffer not 104 bytes"),
     (Bound, 10, "bound over 96"),
     (Room, 11, "more distinct outcomes than length ÷ 96, rounded down"),
+    (Clauses, 12, "over 8 clauses, an absent processor or a register over 7"),
+    (ScheduleRoom, 13, "schedule buffer not 384 bytes"),
     (BadStep, 20, "kind over 1, processor not below P, or an issue with byte 2 or 3 not zero"),
     (PlaceUndefined, 21, "place counter undefined"),
     (AtEnd, 22, "at the end"),
@@ -107,7 +111,7 @@ mod tests {
             assert_eq!(Reason::from_code(*code), Some(*refusal));
         }
         let codes: Vec<u32> = Reason::all().map(Reason::code).collect();
-        assert_eq!(codes, (1..=7).chain([19]).chain(8..=11).chain(20..=32).collect::<Vec<u32>>());
+        assert_eq!(codes, (1..=7).chain([19]).chain(8..=13).chain(20..=32).collect::<Vec<u32>>());
         assert_eq!(Reason::from_code(0), None);
     }
 }

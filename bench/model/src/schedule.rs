@@ -15,6 +15,26 @@ impl Step {
     }
 }
 
+/// The bytes of the longest schedule.
+pub const SCHEDULE: usize = 384;
+
+/// The steps of a schedule's bytes.
+pub fn steps(schedule: &[u8]) -> Vec<Step> {
+    let step = |bytes: &[u8]| match *bytes {
+        [0, processor, ..] => Step::Issue { processor },
+        [_, processor, action, source] => Step::Commit { processor, action, source },
+        _ => unreachable!("a step has four bytes"),
+    };
+    schedule.chunks_exact(4).map(step).collect()
+}
+
+/// Puts a schedule at the start of a buffer; its bytes.
+pub fn put_schedule(buffer: &mut [u8], steps: &[Step]) -> usize {
+    let bytes = schedule(steps);
+    buffer[..bytes.len()].copy_from_slice(&bytes);
+    bytes.len()
+}
+
 /// The bytes of a schedule.
 pub fn schedule(steps: &[Step]) -> Vec<u8> {
     steps.iter().flat_map(|step| step.bytes()).collect()

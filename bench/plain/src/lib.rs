@@ -4,12 +4,14 @@
 
 mod bytes;
 mod machine;
+mod seek;
 
 pub use machine::Machine;
 
 use std::collections::BTreeSet;
 
-use model::{Case, Codec, Coded, Listed, Lister, Outcome, Reason, Refusal, Replayed, Replayer, Step, ENDING, RECORD, STEPS};
+use model::{put_schedule, Asked, Asker, Case, Clause, Codec, Coded, Listed, Lister, Outcome, Reason, Refusal};
+use model::{Replayed, Replayer, Step, CLAUSES, ENDING, RECORD, SCHEDULE, STEPS};
 
 /// All outcomes within a bound.
 #[derive(Clone, Debug, Default)]
@@ -78,6 +80,32 @@ fn listed(block: &[u8], bound: u32, records: &mut [u8]) -> Result<Listing, Refus
         records[i * RECORD..(i + 1) * RECORD].copy_from_slice(&outcome.bytes());
     }
     Ok(listing)
+}
+
+impl Asker for Plain {
+    fn ask(&self, block: &[u8], bound: u32, clauses: &[Clause], schedule: &mut [u8]) -> Asked {
+        schedule.fill(0);
+        asked(block, bound, clauses, schedule).unwrap_or_else(Asked::refused)
+    }
+}
+
+fn asked(block: &[u8], bound: u32, clauses: &[Clause], schedule: &mut [u8]) -> Result<Asked, Refusal> {
+    let case = bytes::case(block)?;
+    if bound > STEPS as u32 {
+        return Err(Reason::Bound.into());
+    }
+    let absent = |clause: &Clause| clause.processor >= case.processors().len() as u8 || clause.register > 7;
+    if clauses.len() > CLAUSES || clauses.iter().any(absent) {
+        return Err(Reason::Clauses.into());
+    }
+    if schedule.len() != SCHEDULE {
+        return Err(Reason::ScheduleRoom.into());
+    }
+    let mut seeking = seek::Seeking::new(clauses);
+    Ok(match seeking.finds(&Machine::new(&case), bound as u8) {
+        true => Asked::yes(put_schedule(schedule, &seeking.path)),
+        false => Asked::no(seeking.cut),
+    })
 }
 
 impl Replayer for Plain {

@@ -8,7 +8,7 @@ use crate::Rng;
 /// The registers that hold addresses and values from the start, and those that instructions assign.
 const GIVEN: [u8; 5] = [0, 0, 1, 1, 4];
 const ASSIGNED: [u8; 4] = [2, 3, 5, 6];
-const VALUES: [u16; 8] = [0, 1, 2, 3, 7, 255, 256, 65_535];
+pub const VALUES: [u16; 8] = [0, 1, 2, 3, 7, 255, 256, 65_535];
 
 /// A case for listing: few instructions, mostly races.
 pub fn to_list(rng: &mut Rng) -> Case {

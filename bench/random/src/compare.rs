@@ -1,14 +1,14 @@
 use std::env;
 use std::process::ExitCode;
 
-use model::{block, Codec, Coded, Listed, Lister, Replayed, Replayer, RECORD};
+use model::{block, Asked, Asker, Codec, Coded, Listed, Lister, Replayed, Replayer, RECORD};
 
-use crate::{Inputs, ListInput, ReplayInput, Tally};
+use crate::{AskInput, Inputs, ListInput, ReplayInput, Tally};
 
 /// An implementation of every call that is compared.
-pub trait Calls: Codec + Lister + Replayer {}
+pub trait Calls: Asker + Codec + Lister + Replayer {}
 
-impl<T: Codec + Lister + Replayer> Calls for T {}
+impl<T: Asker + Codec + Lister + Replayer> Calls for T {}
 
 /// Every length of a schedule or a buffer up to this is handed over.
 pub(crate) const LENGTHS: usize = 400;
@@ -24,6 +24,7 @@ const DAMAGED: usize = 10_000;
 #[derive(Clone, Copy, Debug)]
 pub struct Plan {
     pub seed: u64,
+    /// Lists, with a question about each.
     pub lists: u32,
     pub replays: u32,
     /// The most schedules that a listing may have.
@@ -36,6 +37,7 @@ pub enum Mismatch {
     Read { block: Vec<u8>, reference: Coded, other: Coded },
     Write { block: Vec<u8>, reference: Coded, other: Coded },
     List { input: ListInput, reference: Listed, other: Listed },
+    Ask { input: AskInput, reference: Asked, other: Asked },
     Replay { input: ReplayInput, reference: Replayed, other: Replayed },
 }
 
@@ -44,10 +46,13 @@ pub fn compare(plan: Plan, reference: &dyn Calls, other: &dyn Calls) -> Result<T
     let mut comparison = Comparison { tally: Tally::default(), reference, other };
     let mut inputs = Inputs::new(plan.seed);
     for _ in 0..plan.lists {
-        comparison.list(inputs.to_list(plan.schedules))?;
+        let held = inputs.listable(plan.schedules);
+        comparison.list(inputs.to_list(&held))?;
+        comparison.ask(inputs.to_ask(&held))?;
     }
     for room in rooms() {
-        comparison.list(inputs.to_list_into(room, plan.schedules))?;
+        let held = inputs.listable(plan.schedules);
+        comparison.list(inputs.to_list_into(room, &held))?;
     }
     for _ in 0..plan.replays {
         comparison.replay(inputs.to_replay(&comparison.tally))?;
@@ -102,6 +107,17 @@ impl Comparison<'_> {
             return Err(Box::new(Mismatch::List { input, reference, other }));
         }
         self.tally.listed(&input, reference);
+        Ok(())
+    }
+
+    fn ask(&mut self, input: AskInput) -> Result<(), Box<Mismatch>> {
+        let (mut ours, mut theirs) = (vec![0xA5; input.room], vec![0x5A; input.room]);
+        let reference = self.reference.ask(&input.block, input.bound, &input.clauses, &mut ours);
+        let other = self.other.ask(&input.block, input.bound, &input.clauses, &mut theirs);
+        if (reference, ours) != (other, theirs) {
+            return Err(Box::new(Mismatch::Ask { input, reference, other }));
+        }
+        self.tally.asked(reference);
         Ok(())
     }
 

@@ -2,7 +2,8 @@
 
 use std::ops::Range;
 
-use model::{block, schedule, Case, Step, ACTIONS, ENDING, RECORD, STEPS};
+use model::{block, clause, schedule, Case, Clause, Outcome, Step};
+use model::{ACTIONS, CLAUSES, ENDING, RECORD, REGISTERS, SCHEDULE, STEPS};
 use states::Run;
 
 use crate::{cases, Rng, Tally};
@@ -15,6 +16,23 @@ const STATES: usize = 2_000;
 pub struct ListInput {
     pub block: Vec<u8>,
     pub bound: u32,
+    pub room: usize,
+}
+
+/// A case that can be listed within a bound, and its outcomes.
+#[derive(Clone, Debug, PartialEq, Eq)]
+pub struct Listable {
+    pub case: Case,
+    pub bound: u8,
+    pub outcomes: Vec<Outcome>,
+}
+
+/// What a question is handed.
+#[derive(Clone, Debug, PartialEq, Eq)]
+pub struct AskInput {
+    pub block: Vec<u8>,
+    pub bound: u32,
+    pub clauses: Vec<Clause>,
     pub room: usize,
 }
 
@@ -36,23 +54,56 @@ impl Inputs {
         Inputs { rng: Rng::new(seed) }
     }
 
-    /// A listing of at most so many schedules.
-    pub fn to_list(&mut self, most: u128) -> ListInput {
+    /// A case and a bound whose list has at most so many schedules.
+    pub fn listable(&mut self, most: u128) -> Listable {
         loop {
             let case = cases::to_list(&mut self.rng);
             let bound = self.bound(&case);
             let Some(listing) = states::list_within(&case, bound, STATES) else { continue };
             let telling = listing.outcomes.len() >= 2 || listing.cut && usize::from(bound) > ACTIONS;
             if listing.schedules <= most && (telling || self.rng.once_in(8)) {
-                let room = self.records_room(listing.outcomes.len());
-                return self.spoilt_list(ListInput { block: case.block().to_vec(), bound: bound.into(), room });
+                return Listable { case, bound, outcomes: listing.outcomes.into_iter().collect() };
             }
         }
     }
 
-    /// A listing of at most so many schedules into a buffer of a given length.
-    pub fn to_list_into(&mut self, room: usize, most: u128) -> ListInput {
-        ListInput { room, ..self.to_list(most) }
+    pub fn to_list(&mut self, held: &Listable) -> ListInput {
+        let room = self.records_room(held.outcomes.len());
+        self.spoilt_list(ListInput { block: held.case.block().to_vec(), bound: held.bound.into(), room })
+    }
+
+    /// A listing into a buffer of a given length.
+    pub fn to_list_into(&mut self, room: usize, held: &Listable) -> ListInput {
+        ListInput { room, ..self.to_list(held) }
+    }
+
+    /// A question about a case: mostly up to three clauses, half of them taken from one outcome.
+    pub fn to_ask(&mut self, held: &Listable) -> AskInput {
+        let wanted = (!held.outcomes.is_empty()).then(|| self.rng.pick(&held.outcomes)).unwrap_or_default();
+        let slips = self.rng.once_in(2);
+        let most = if self.rng.once_in(16) { CLAUSES + 2 } else { 4 };
+        let clauses = (0..self.rng.below(most)).map(|_| self.clause(&held.case, &wanted, slips)).collect();
+        let input = ListInput { block: held.case.block().to_vec(), bound: held.bound.into(), room: 0 };
+        let ListInput { block, bound, .. } = self.spoilt_list(input);
+        let room = if self.rng.once_in(24) { self.rng.pick(&[0, 383, 385, 400]) } else { SCHEDULE };
+        AskInput { block, bound, clauses, room }
+    }
+
+    /// A clause that an outcome meets, or one that slips in half its parts.
+    fn clause(&mut self, case: &Case, wanted: &Outcome, slips: bool) -> Clause {
+        let (p, k) = (self.rng.below(case.processors().len()), self.rng.below(REGISTERS));
+        let mut clause = clause(p as u8, k as u8).ends_as(wanted.registers[p][k]);
+        if !clause.defined && self.rng.once_in(2) {
+            clause.value = self.rng.pick(&cases::VALUES);
+        }
+        match self.rng.below(if slips { 8 } else { 64 }) {
+            0 => clause.defined ^= true,
+            1 => clause.value = self.rng.pick(&cases::VALUES),
+            2 => clause.register = self.rng.below(REGISTERS + 1) as u8,
+            3 => clause.processor = self.rng.below(5) as u8,
+            _ => (),
+        }
+        clause
     }
 
     /// Mostly the steps of one pass over every program, now and then a little less or more; for a case with

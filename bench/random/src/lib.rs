@@ -8,6 +8,6 @@ mod rng;
 mod tally;
 
 pub use compare::{compare, run, Calls, Mismatch, Plan};
-pub use inputs::{Inputs, ListInput, ReplayInput};
+pub use inputs::{AskInput, Inputs, ListInput, Listable, ReplayInput};
 pub use rng::Rng;
 pub use tally::Tally;

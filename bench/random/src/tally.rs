@@ -1,7 +1,7 @@
 use std::collections::{BTreeMap, BTreeSet};
 use std::fmt;
 
-use model::{Coded, Listed, Reason, Replayed};
+use model::{Asked, Coded, Listed, Reason, Replayed};
 
 use crate::compare::{rooms, LENGTHS, RECORDS};
 use crate::{ListInput, ReplayInput};
@@ -16,6 +16,10 @@ pub struct Tally {
     cut: u32,
     /// Cut lists whose bound is over 48: runs of loops in which code 23 may arise.
     long_lists: u32,
+    /// How many questions ended with each code, with yes, and with no and cut.
+    asks: BTreeMap<u32, u32>,
+    yes: u32,
+    no_cut: u32,
     /// How many replays ended with each code.
     replays: BTreeMap<u32, u32>,
     long: u32,
@@ -42,6 +46,12 @@ impl Tally {
         self.records.insert(input.room);
     }
 
+    pub(crate) fn asked(&mut self, asked: Asked) {
+        *self.asks.entry(asked.code).or_default() += 1;
+        self.yes += u32::from(asked.yes);
+        self.no_cut += u32::from(asked.cut);
+    }
+
     pub(crate) fn replayed(&mut self, input: &ReplayInput, replayed: Replayed) {
         *self.replays.entry(replayed.code).or_default() += 1;
         self.long += u32::from(replayed.steps >= 20);
@@ -66,14 +76,18 @@ impl Tally {
         self.replays.get(&code).copied().unwrap_or(0)
     }
 
-    /// A third of the lists with two or more outcomes, half the replays of 20 steps or more, every code and every place.
+    /// A third of the lists with two or more outcomes, a third of the questions with yes, half the replays of 20 steps or more, every code and every place.
     pub fn deep(&self) -> bool {
+        let tallies = [&self.lists, &self.asks, &self.replays];
+        let missing = |code: &u32| tallies.iter().all(|tally| !tally.contains_key(code));
         let codes = Reason::all().map(Reason::code);
-        let missing = |code: &u32| !self.lists.contains_key(code) && !self.replays.contains_key(code);
         3 * self.several >= self.lists.values().sum()
+            && 3 * self.yes >= self.asks.values().sum()
+            && self.no_cut > 0
             && 2 * self.long >= self.replays.values().sum()
             && codes.filter(missing).count() == 0
             && (1..=7).chain([19]).all(|code| self.lists.contains_key(&code) && self.replays.contains_key(&code))
+            && [19, 10, 12, 13].iter().all(|code| self.asks.contains_key(code))
             && (0..12).all(|place| self.places.contains(&place))
             && self.lengths()
             && self.positions()
@@ -100,6 +114,9 @@ impl fmt::Display for Tally {
         let (several, most, cut, long) = (self.several, self.most, self.cut, self.long_lists);
         writeln!(f, "lists {lists}, two or more outcomes {several}, at most {most}, cut {cut}, cut over 48 steps {long}")?;
         writeln!(f, "  by code{}", codes(&self.lists))?;
+        let asks = self.asks.values().sum::<u32>();
+        writeln!(f, "questions {asks}, yes {}, no and cut {}", self.yes, self.no_cut)?;
+        writeln!(f, "  by code{}", codes(&self.asks))?;
         writeln!(f, "replays {replays}, 20 steps or more {}, 96 steps {}", self.long, self.whole)?;
         writeln!(f, "  by code{}", codes(&self.replays))?;
         let blocks = self.blocks.iter().map(|(code, (positions, n))| format!(" {code}:{n}/{}", positions.len()));

@@ -14,7 +14,10 @@ fn states_and_plain_agree_on_deep_inputs() {
 fn a_seed_gives_the_same_inputs_again() {
     let (mut first, mut second) = (Inputs::new(3), Inputs::new(3));
     for _ in 0..20 {
-        assert_eq!(first.to_list(20_000), second.to_list(20_000));
+        let (held, again) = (first.listable(20_000), second.listable(20_000));
+        assert_eq!(held, again);
+        assert_eq!(first.to_list(&held), second.to_list(&again));
+        assert_eq!(first.to_ask(&held), second.to_ask(&again));
         assert_eq!(first.to_replay(&Tally::default()), second.to_replay(&Tally::default()));
     }
 }

@@ -8,11 +8,13 @@ mod damaged;
 mod lists;
 mod runs;
 mod stored;
+mod wishes;
 
 pub use damaged::{damaged, Damaged};
 pub use lists::{lists, locked_message, message};
 pub use runs::runs;
 pub use stored::{outcomes_prints, replay_prints, stored};
+pub use wishes::wishes;
 
 use std::collections::BTreeSet;
 

@@ -1,10 +1,11 @@
 //! Shapes of one schedule.
 
 use model::ops::*;
-use model::{schedule, CaseBuilder, Instr, Outcome, Step};
+use model::{clause, schedule, CaseBuilder, Clause, Instr, Outcome, Step};
+use states::Answer;
 
 use crate::lists::{figure_2, figure_8};
-use crate::{damaged, usual, Register, Run};
+use crate::{damaged, usual, Run};
 
 fn issue(processor: u8) -> Step {
     Step::Issue { processor }
@@ -33,13 +34,15 @@ impl Run {
     }
 }
 
-/// A run found by the enumerator that ends with these registers.
-fn found(name: &'static str, case: CaseBuilder, wanted: &[(Register, u16)]) -> Run {
+/// The lowest run that ends with these registers.
+fn lowest(name: &'static str, case: CaseBuilder, wanted: &[Clause]) -> Run {
     let sound = case.clone().build().expect("a sound case");
-    let meets = |outcome: &Outcome| wanted.iter().all(|&((p, k), value)| outcome.registers[p][k] == Some(value));
     let instructions: usize = sound.processors().iter().map(|processor| processor.program.len()).sum();
-    let steps = states::find(&sound, 2 * instructions as u8, meets).expect("a schedule that reaches the result");
-    run(name, case, &steps, 0)
+    let meets = |outcome: &Outcome| wanted.iter().all(|clause| clause.met(outcome));
+    match states::ask(&sound, 2 * instructions as u8, meets) {
+        Answer::Yes(steps) => run(name, case, &steps, 0),
+        Answer::No { .. } => panic!("no schedule reaches the result of {name}"),
+    }
 }
 
 /// One processor and one location.
@@ -59,8 +62,8 @@ fn scope() -> Vec<Run> {
     // The trace that source 000 gives in section 4.
     let trace = [issue(0), issue(1), issue(0), issue(1), commit(0, 2), commit(1, 3), take(0, 0, 11), take(1, 1, 10)];
     vec![
-        found("000-figure-2", figure_2(), &[((1, 2), 1), ((1, 3), 2), ((2, 2), 2), ((2, 3), 1)]),
-        found("000-figure-8", figure_8(), &[((0, 2), 1), ((1, 2), 1)]),
+        lowest("000-figure-2", figure_2(), &[clause(1, 2).is(1), clause(1, 3).is(2), clause(2, 2).is(2), clause(2, 3).is(1)]),
+        lowest("000-figure-8", figure_8(), &[clause(0, 2).is(1), clause(1, 2).is(1)]),
         run("000-figure-8-trace", figure_8(), &trace, 0),
         run("goto-0-49th", alone(&[goto(0)]), &[issue(0); 49], 23).at(0),
         run("acquire-acquire-release", alone(&[acquire(0), acquire(0), release(0)]), &finishes, 0),

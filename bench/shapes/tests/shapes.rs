@@ -3,9 +3,9 @@
 use std::fs;
 use std::path::Path;
 
-use model::{Codec, Coded, Lister, Outcome, Replayed, Replayer, Step, RECORD};
+use model::{clause, Asked, Asker, Codec, Coded, Lister, Replayed, Replayer, RECORD, SCHEDULE};
 use plain::Plain;
-use shapes::{damaged, lists, runs, Shape};
+use shapes::{damaged, lists, runs, wishes, Shape};
 use states::States;
 
 /// Schedules beyond which the search without a memory takes too long for a test.
@@ -85,14 +85,51 @@ fn h_needs_room_for_four() {
     }
 }
 
-/// A schedule found is one that is easy to follow: the length is read before it is written, not after.
+/// Reading 1 of request 05: H's bad result takes 32 bytes, and the lowest schedule issues everything first.
 #[test]
-fn a_schedule_found_reads_what_is_there() {
-    let case = shapes::message().build().unwrap();
-    let wanted = |outcome: &Outcome| outcome.registers[1][2..4] == [Some(1), Some(0)];
-    let steps = states::find(&case, 8, wanted).unwrap();
-    assert_eq!(steps.len(), 8);
-    assert_eq!(steps[7], Step::Commit { processor: 0, action: 0, source: 0 });
+fn the_lowest_schedule_of_h() {
+    let block = shapes::message().build().unwrap().block();
+    let wanted = [clause(1, 2).is(1), clause(1, 3).is(0)];
+    let expected = [0, 0, 0, 0, 0, 0, 0, 0, 0, 1, 0, 0, 0, 1, 0, 0, 1, 0, 0, 0, 1, 0, 1, 0, 1, 1, 2, 9, 1, 1, 3, 0];
+    let askers: [&dyn Asker; 2] = [&States, &Plain];
+    for asker in askers {
+        let mut schedule = [7; SCHEDULE];
+        assert_eq!(asker.ask(&block, 8, &wanted, &mut schedule), Asked::yes(32));
+        assert_eq!((&schedule[..32], &schedule[32..]), (&expected[..], &[0; 352][..]));
+        assert_eq!(asker.ask(&block, 7, &wanted, &mut schedule), Asked::no(true));
+        assert_eq!(schedule, [0; SCHEDULE]);
+        assert_eq!(asker.ask(&block, 8, &[clause(1, 2).undefined()], &mut schedule), Asked::no(false));
+        assert_eq!(asker.ask(&block, 8, &[clause(1, 2).is(1), clause(1, 2).is(0)], &mut schedule), Asked::no(false));
+        assert_eq!(asker.ask(&block, 8, &[], &mut schedule), Asked::yes(32));
+    }
+}
+
+/// Reading 18: nothing to do is done at once.
+#[test]
+fn any_outcome_of_nothing() {
+    let block = shapes::usual(1, &[&[]]).build().unwrap().block();
+    assert_eq!(States.ask(&block, 0, &[], &mut [7; SCHEDULE]), Asked::yes(0));
+    assert_eq!(Plain.ask(&block, 0, &[], &mut [7; SCHEDULE]), Asked::yes(0));
+}
+
+/// Both answer every wish on one register of the smaller shapes alike, and yes exactly if the list holds it.
+#[test]
+fn wishes_are_answered_alike() {
+    for shape in lists() {
+        let listing = states::list(&shape.case, shape.bound);
+        if listing.schedules > 5_000 {
+            continue;
+        }
+        let block = shape.case.block();
+        for wish in wishes(&shape.case, &listing.outcomes) {
+            let (mut schedule, mut other) = ([7; SCHEDULE], [9; SCHEDULE]);
+            let asked = States.ask(&block, shape.bound.into(), &[wish], &mut schedule);
+            assert_eq!(Plain.ask(&block, shape.bound.into(), &[wish], &mut other), asked, "{} {wish:?}", shape.name);
+            assert_eq!(schedule, other, "{} {wish:?}", shape.name);
+            assert_eq!(asked.yes, listing.outcomes.iter().any(|outcome| wish.met(outcome)), "{} {wish:?}", shape.name);
+            assert_eq!(asked.cut, !asked.yes && listing.cut, "{} {wish:?}", shape.name);
+        }
+    }
 }
 
 /// Source 000's shown results, read from the result buffer of the stored schedules.

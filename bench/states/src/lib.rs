@@ -4,15 +4,18 @@
 //! processor's issue order, so that runs which differ only in how they interleave meet in one state.
 #![forbid(unsafe_code)]
 
+mod ask;
 mod order;
 mod replay;
 mod search;
 mod state;
 
+pub use ask::{ask, Answer};
 pub use replay::Run;
-pub use search::{find, list, list_within, Listing};
+pub use search::{list, list_within, Listing};
 
-use model::{block, Case, Codec, Coded, Listed, Lister, Reason, Refusal, Replayed, Replayer, ENDING, RECORD, STEPS};
+use model::{block, put_schedule, Asked, Asker, Case, Clause, Codec, Coded, Listed, Lister, Reason, Refusal};
+use model::{Replayed, Replayer, ENDING, RECORD, SCHEDULE, STEPS};
 
 /// The enumerator behind the bytes that the library takes.
 pub struct States;
@@ -43,13 +46,38 @@ impl Lister for States {
 }
 
 fn outcomes(block: &[u8], bound: u32, room: usize) -> Result<Listing, Refusal> {
-    let case = block::read(block)?;
-    let bound = u8::try_from(bound).ok().filter(|&bound| usize::from(bound) <= STEPS).ok_or(Reason::Bound)?;
+    let (case, bound) = bounded(block, bound)?;
     let listing = list(&case, bound);
     if listing.outcomes.len() > room {
         return Err(Reason::Room.into());
     }
     Ok(listing)
+}
+
+fn bounded(block: &[u8], bound: u32) -> Result<(Case, u8), Refusal> {
+    let case = block::read(block)?;
+    let bound = u8::try_from(bound).ok().filter(|&bound| usize::from(bound) <= STEPS).ok_or(Reason::Bound)?;
+    Ok((case, bound))
+}
+
+impl Asker for States {
+    fn ask(&self, block: &[u8], bound: u32, clauses: &[Clause], schedule: &mut [u8]) -> Asked {
+        schedule.fill(0);
+        match asked(block, bound, clauses, schedule.len()) {
+            Ok(Answer::Yes(steps)) => Asked::yes(put_schedule(schedule, &steps)),
+            Ok(Answer::No { cut }) => Asked::no(cut),
+            Err(refusal) => Asked::refused(refusal),
+        }
+    }
+}
+
+fn asked(block: &[u8], bound: u32, clauses: &[Clause], room: usize) -> Result<Answer, Refusal> {
+    let (case, bound) = bounded(block, bound)?;
+    Clause::judge(clauses, &case)?;
+    if room != SCHEDULE {
+        return Err(Reason::ScheduleRoom.into());
+    }
+    Ok(ask(&case, bound, |outcome| clauses.iter().all(|clause| clause.met(outcome))))
 }
 
 impl Replayer for States {

@@ -67,7 +67,27 @@ impl<'a> Run<'a> {
 
     /// Every step that would be accepted next.
     pub fn accepted(&self) -> Vec<Step> {
-        self.state.moves(self.case).into_iter().map(|(taken, _)| self.step(taken)).collect()
+        self.moves().into_iter().map(|(step, _)| step).collect()
+    }
+
+    /// Every accepted step with the run after it, in byte order.
+    pub fn moves(&self) -> Vec<(Step, Run<'a>)> {
+        let moves = self.state.moves(self.case).into_iter();
+        let mut moves: Vec<_> = moves.map(|(taken, state)| (self.step(taken), self.after(taken, state))).collect();
+        moves.sort_by_key(|(step, _)| step.bytes());
+        moves
+    }
+
+    fn after(&self, taken: Move, state: State) -> Run<'a> {
+        let mut issued = self.issued.clone();
+        if let Move::Issue(p) = taken {
+            issued.push((p, self.state.actions(p).len() as u8));
+        }
+        Run { case: self.case, state, issued, steps: self.steps + 1 }
+    }
+
+    pub(crate) fn state(&self) -> &State {
+        &self.state
     }
 
     fn item(&self, number: u8) -> Option<Item> {
@@ -78,7 +98,7 @@ impl<'a> Run<'a> {
     }
 
     /// A move in document 01's numbers.
-    pub(crate) fn step(&self, taken: Move) -> Step {
+    fn step(&self, taken: Move) -> Step {
         let number = |id: Id| self.issued.iter().position(|&issued| issued == id).expect("an issued action") as u8;
         match taken {
             Move::Issue(processor) => Step::Issue { processor },

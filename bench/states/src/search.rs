@@ -1,11 +1,10 @@
-//! Which outcomes there are, and a schedule that reaches one.
+//! Which outcomes there are.
 
-use std::collections::{BTreeSet, HashMap, HashSet};
+use std::collections::{BTreeSet, HashMap};
 
-use model::{Case, Outcome, Step};
+use model::{Case, Outcome};
 
-use crate::replay::Run;
-use crate::state::{Id, Item, Move, State};
+use crate::state::State;
 
 /// All outcomes within a bound.
 #[derive(Clone, Debug, Default)]
@@ -54,66 +53,4 @@ fn following(case: &Case, level: &HashMap<State, u128>) -> HashMap<State, u128> 
         }
     }
     next
-}
-
-/// A schedule of at most `bound` steps that ends finished with a wanted outcome. Where there is one in which
-/// no read takes an initial word while another write is visible, that one: it is the easier to follow.
-pub fn find(case: &Case, bound: u8, wanted: impl Fn(&Outcome) -> bool) -> Option<Vec<Step>> {
-    [true, false].into_iter().find_map(|fresh| {
-        let mut search = Search { case, wanted: &wanted, fresh, seen: HashSet::new(), path: vec![] };
-        search.reaches(State::start(case), bound).then(|| numbered(case, &search.path))
-    })
-}
-
-struct Search<'a, F> {
-    case: &'a Case,
-    wanted: &'a F,
-    fresh: bool,
-    seen: HashSet<State>,
-    path: Vec<Move>,
-}
-
-impl<F: Fn(&Outcome) -> bool> Search<'_, F> {
-    /// Depth first; a state seen before needs no second visit, as all ways to it have the same length.
-    fn reaches(&mut self, state: State, left: u8) -> bool {
-        if state.finished(self.case) {
-            return (self.wanted)(&state.ending(self.case).outcome);
-        }
-        if left == 0 || !self.seen.insert(state.clone()) {
-            return false;
-        }
-        for (taken, next) in self.moves(&state) {
-            self.path.push(taken);
-            if self.reaches(next, left - 1) {
-                return true;
-            }
-            self.path.pop();
-        }
-        false
-    }
-
-    fn moves(&self, state: &State) -> Vec<(Move, State)> {
-        let mut moves = state.moves(self.case);
-        if self.fresh {
-            let later = |taken: &Move| match taken {
-                Move::Commit(id, Item::Of(_)) => Some(*id),
-                _ => None,
-            };
-            let readable: Vec<Id> = moves.iter().filter_map(|(taken, _)| later(taken)).collect();
-            moves.retain(|(taken, _)| !matches!(taken, Move::Commit(id, Item::Initial(_)) if readable.contains(id)));
-        }
-        moves
-    }
-}
-
-/// The moves as steps, with actions and items by their numbers.
-fn numbered(case: &Case, path: &[Move]) -> Vec<Step> {
-    let mut run = Run::new(case);
-    let mut steps = vec![];
-    for &taken in path {
-        let step = run.step(taken);
-        run.take(step.bytes()).expect("the path was accepted");
-        steps.push(step);
-    }
-    steps
 }

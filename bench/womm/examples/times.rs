@@ -1,10 +1,10 @@
 //! `times [MOST]` times the library beside the plain depth-first search, where that has at most so many
-//! schedules to walk (by default 30,000,000), and beside the breadth-first enumerator; then replays.
+//! schedules to walk (by default 30,000,000), and beside the breadth-first enumerator; then questions beside lists; then replays.
 
 use std::env;
 use std::time::Instant;
 
-use model::{Lister, Replayer, ENDING, RECORD};
+use model::{clause, Asker, Clause, Lister, Replayer, ENDING, RECORD, SCHEDULE};
 use plain::Plain;
 use random::{Inputs, ReplayInput};
 use shapes::Shape;
@@ -26,7 +26,34 @@ fn main() {
         println!("{}", row(&shape, most));
     }
     println!();
+    asks();
+    println!();
     replays();
+}
+
+/// For each shape the slowest of its results, each asked for with its lowest schedule, beside the whole list.
+fn asks() {
+    println!(
+        "Milliseconds to ask for a result and its lowest schedule: the slowest of the shape's results, and the whole list.\n"
+    );
+    println!("{:24}{:>5}{:>9}{:>11}{:>11}", "shape", "bound", "results", "ask", "list");
+    for shape in shapes::lists().iter().filter(|shape| !shape.results.is_empty()) {
+        let slowest = shape.results.iter().map(|result| ask_time(shape, result)).fold(0.0, f64::max);
+        let list = list_time(&Library, shape);
+        let (name, bound, results) = (shape.name, shape.bound, shape.results.len());
+        println!("{name:24}{bound:>5}{results:>9}{:>11.3}{:>11.3}", slowest * 1e3, list * 1e3);
+    }
+}
+
+fn ask_time(shape: &Shape, result: &[u16]) -> f64 {
+    let block = shape.case.block();
+    let clauses: Vec<Clause> =
+        shape.watched.iter().zip(result).map(|(&(p, k), &value)| clause(p as u8, k as u8).is(value)).collect();
+    let mut schedule = [0; SCHEDULE];
+    best(|| {
+        let asked = Library.ask(&block, shape.bound.into(), &clauses, &mut schedule);
+        assert!(asked.yes);
+    })
 }
 
 /// A shape's line: times, and those of the two others divided by the library's.

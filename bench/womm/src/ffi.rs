@@ -1,6 +1,8 @@
 //! The library's exports. A slice passes as its pointer, then its length; a number lent has a length's width.
 #![allow(unsafe_code)]
 
+use model::Clause;
+
 extern "C" {
     fn womm_read(block: *const u8, block_length: usize, position: *mut usize) -> u32;
 
@@ -28,6 +30,26 @@ extern "C" {
         cut: *mut usize,
         position: *mut usize,
     ) -> u32;
+
+    fn womm_ask(
+        block: *const u8,
+        block_length: usize,
+        bound: u32,
+        clauses: *const Clause,
+        clauses_length: usize,
+        schedule: *mut u8,
+        schedule_length: usize,
+    ) -> AskNumbers;
+}
+
+/// What a question gives: the code, two marks and two numbers.
+#[repr(C)]
+pub struct AskNumbers {
+    pub code: u32,
+    pub yes: usize,
+    pub length: usize,
+    pub cut: usize,
+    pub position: usize,
 }
 
 /// The numbers that a replay hands back.
@@ -72,4 +94,12 @@ pub fn outcomes(block: &[u8], bound: u32, records: &mut [u8], numbers: ListNumbe
     let (bytes, length) = (records.as_mut_ptr(), records.len());
     // SAFETY: as above; `records` and the numbers are lent to this call alone.
     unsafe { womm_outcomes(block.as_ptr(), block.len(), bound, bytes, length, count, cut, position) }
+}
+
+/// Asks for a result.
+pub fn ask(block: &[u8], bound: u32, clauses: &[Clause], schedule: &mut [u8]) -> AskNumbers {
+    let (wish, wishes) = (clauses.as_ptr(), clauses.len());
+    let (bytes, length) = (schedule.as_mut_ptr(), schedule.len());
+    // SAFETY: as above; a clause has the layout that the library takes, and `schedule` is lent to this call alone.
+    unsafe { womm_ask(block.as_ptr(), block.len(), bound, wish, wishes, bytes, length) }
 }

@@ -1,9 +1,9 @@
 use std::hint::black_box;
 
-use model::{Codec, Coded, Listed, Lister, Replayed, Replayer};
+use model::{clause, Asked, Asker, Clause, Codec, Coded, Listed, Lister, Replayed, Replayer};
 
 use crate::ffi::{self, ListNumbers, ReplayNumbers};
-use crate::{mark, place_given, short};
+use crate::{asked, mark, place_given, short};
 
 /// The library with everything it is lent standing between canaries. After each call the canaries stand,
 /// the inputs are what they were, and every number has been given.
@@ -100,5 +100,18 @@ impl Replayer for Guarded {
         result.copy_from_slice(black_box(&lent).opened("result"));
         let (steps, position) = (short(steps.opened("steps")), short(position.opened("position")));
         Replayed { code, steps, place: place_given(place.opened("place")), position }
+    }
+}
+
+impl Asker for Guarded {
+    fn ask(&self, block: &[u8], bound: u32, clauses: &[Clause], schedule: &mut [u8]) -> Asked {
+        let (held, mut lent) = (Fenced::new(block), Fenced::new(schedule));
+        let edge = [clause(CANARY, CANARY).is(u16::MAX)];
+        let wishes = [&edge, clauses, &edge].concat();
+        let given = ffi::ask(held.inner(), bound, &wishes[1..=clauses.len()], lent.inner_mut());
+        assert_eq!(black_box(&held).opened("block"), block, "the block was written");
+        assert_eq!(black_box(&wishes)[..], [&edge, clauses, &edge].concat(), "a clause was written");
+        schedule.copy_from_slice(black_box(&lent).opened("schedule"));
+        asked(given)
     }
 }

@@ -7,12 +7,12 @@ mod guarded;
 mod stop;
 
 pub use guarded::Guarded;
-pub use model::{ops, Case, CaseBuilder, Codec, Coded, Ending, Instr, Listed, Lister, Outcome};
-pub use model::{Reason, Refusal, Replayed, Replayer, Step};
+pub use model::{clause, ops, Asked, Asker, Case, CaseBuilder, Clause, Codec, Coded, Ending, Instr, Listed, Lister};
+pub use model::{Outcome, Reason, Refusal, Replayed, Replayer, Step};
 pub use stop::{Place, Stop};
 
-use ffi::{ListNumbers, ReplayNumbers};
-use model::{schedule, ENDING, RECORD};
+use ffi::{AskNumbers, ListNumbers, ReplayNumbers};
+use model::{schedule, steps, ENDING, RECORD, SCHEDULE};
 
 /// The library over plain bytes.
 pub struct Library;
@@ -49,6 +49,17 @@ impl Replayer for Library {
     }
 }
 
+impl Asker for Library {
+    fn ask(&self, block: &[u8], bound: u32, clauses: &[Clause], schedule: &mut [u8]) -> Asked {
+        asked(ffi::ask(block, bound, clauses, schedule))
+    }
+}
+
+fn asked(given: AskNumbers) -> Asked {
+    let AskNumbers { code, yes, length, cut, position } = given;
+    Asked { code, yes: mark(yes), length: short(length), cut: mark(cut), position: short(position) }
+}
+
 /// Whether a block holds a case.
 pub fn read(block: &[u8]) -> Result<(), Refusal> {
     let coded = Library.read(block);
@@ -74,6 +85,26 @@ pub struct Replay {
     pub steps: u32,
     pub stopped: Option<Stop>,
     pub ending: Ending,
+}
+
+/// The answer to a wanted result.
+#[derive(Clone, Debug, PartialEq, Eq)]
+pub enum Answer {
+    /// It is possible; the lowest schedule in byte order that shows it.
+    Yes(Vec<Step>),
+    /// It is not, within the bound. With `cut` a larger bound may reach it.
+    No { cut: bool },
+}
+
+/// Asks whether some finished run within a bound meets every clause. Its stack is a list's.
+pub fn ask(case: &Case, bound: u32, clauses: &[Clause]) -> Result<Answer, Refusal> {
+    let mut schedule = [0; SCHEDULE];
+    let asked = Library.ask(&case.block(), bound, clauses, &mut schedule);
+    accepted(asked.code, asked.position)?;
+    Ok(match asked.yes {
+        true => Answer::Yes(steps(&schedule[..asked.length as usize])),
+        false => Answer::No { cut: asked.cut },
+    })
 }
 
 /// Lists a case's outcomes, with room for so many. A bound of 96 takes a little over a megabyte of stack; on
@@ -105,7 +136,7 @@ fn accepted(code: u32, position: u32) -> Result<(), Refusal> {
     reason(code).map_or(Ok(()), |reason| Err(Refusal { reason, position }))
 }
 
-/// A number that the library gives: records, steps or a position.
+/// A number that the library gives: records, steps, bytes or a position.
 fn short(count: usize) -> u32 {
     count.try_into().expect("no answer of document 01 is so large")
 }

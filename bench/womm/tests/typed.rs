@@ -1,6 +1,6 @@
 //! The typed calls.
 
-use womm::{Reason, Refusal, Step, Stop};
+use womm::{clause, Answer, Reason, Refusal, Step, Stop};
 
 #[test]
 fn a_typed_replay() {
@@ -33,6 +33,23 @@ fn a_typed_list() {
     assert!(!listing.cut);
     assert_eq!(womm::outcomes(&case, 8, 3), Err(Reason::Room.into()));
     assert_eq!(womm::outcomes(&case, 97, 4), Err(Reason::Bound.into()));
+}
+
+#[test]
+fn a_typed_question() {
+    let case = shapes::message().build().unwrap();
+    let lost = [clause(1, 2).is(1), clause(1, 3).is(0), clause(1, 4).undefined()];
+    let Answer::Yes(schedule) = womm::ask(&case, 8, &lost).unwrap() else { panic!("the bad result is possible") };
+    let replay = womm::replay(&case, &schedule).unwrap();
+    assert_eq!((replay.steps, replay.stopped), (8, None));
+    assert!(lost.iter().all(|clause| clause.met(&replay.ending.outcome)));
+    assert_eq!(womm::ask(&case, 7, &lost), Ok(Answer::No { cut: true }));
+    assert_eq!(womm::ask(&case, 8, &[clause(1, 3).undefined()]), Ok(Answer::No { cut: false }));
+    assert_eq!(womm::ask(&case, 97, &[clause(2, 0).is(0)]), Err(Reason::Bound.into()));
+    for refused in [[clause(2, 0).is(0)].as_slice(), &[clause(0, 8).undefined()], &[clause(0, 0).is(0); 9]] {
+        assert_eq!(womm::ask(&case, 8, refused), Err(Reason::Clauses.into()));
+    }
+    assert!(matches!(womm::ask(&case, 8, &[clause(0, 0).is(0); 8]), Ok(Answer::Yes(_))));
 }
 
 #[test]

@@ -184,7 +184,7 @@ fn still_spent(x: u64, issued: usize, p: usize) -> u64
 }
 
 // The action that the step at position j commits.
-fn action_at(j: usize) -> usize
+pub fn action_at(j: usize) -> usize
     ensures { λ r. ⌜ r ≡ cond (ltb (j / 64) 48) (j / 64) (j % 64) ⌝ }
 {
     if j / 64 < 48 {
@@ -687,7 +687,7 @@ pub fn quiet_read(c: Case, m: Machine) -> usize
 }
 
 // The item that the step at position j names.
-fn source_at(j: usize) -> usize
+pub fn source_at(j: usize) -> usize
     ensures { λ r. ⌜ r ≡ cond (ltb (j / 64) 48) (j % 64) 0 ⌝ }
 {
     if j / 64 < 48 {

@@ -1,7 +1,3 @@
-pub mod Ends
-pub mod Opened
-pub mod Loop
 pub mod Whole
 pub mod Refusals
 pub mod Exact
-pub mod Returns

@@ -1,13 +1,12 @@
 -- The codes of a listing: those of its block first, then 10. Assumes nothing.
-use mathlib.Core.Path.{_≡_, refl, sym, _∙_, ap, subst}
-use mathlib.Core.Bool.{Bool, true, false}
+use mathlib.Core.Path.{_≡_, refl, sym, _∙_, subst}
 use mathlib.Core.List.{List, [], _∷_, _++_}
 use Prim.Native.Nat.{ℕ, zero, suc, _≤_, _<_}
 use native.Mathlib.Omega.{arith}
 use lib.Dec.{ltb}
 use borrow.Author.Tests.{lt-ltb, le-ltb}
-use Rattle.words.specs.Refusals.{Refusal, _when_, firstOf}
-use Rattle.words.proofs.Passed.{Passed, passed}
+use Rattle.words.specs.Refusals.{_when_, firstOf}
+use Rattle.words.proofs.Passed.{passed, first-left, first-right}
 use Rattle.cases.specs.declared.Case.{Case}
 use Rattle.cases.specs.declared.CaseRead.{CaseRead}
 use Rattle.cases.specs.Block.{refusals, caseOf, readOf}
@@ -17,24 +16,6 @@ use Rattle.rules.specs.Womm.{womm}
 use Rattle.machine.specs.Fit.{Fit}
 use Rattle.machine.proofs.Fits.{fit}
 use Rattle.listing.specs.Outcomes.{listRefusals, IsOutcomes}
-
--- the first code of two lists
-
-first-left : (l m : List Refusal) → 0 < firstOf l → firstOf (l ++ m) ≡ firstOf l
-unfolding firstOf
-first-left [] m h = absurd (omega arith)
-first-left (code when true ∷ rest) m h = refl
-first-left (code when false ∷ rest) m h = first-left rest m h
-
-first-right : (l m : List Refusal) → Passed l → firstOf (l ++ m) ≡ firstOf m
-unfolding firstOf
-first-right [] m p = refl
-first-right (code when true ∷ rest) m p = absurd (omega (arith, ap bit (p .0)))
-  where
-    bit : Bool → ℕ
-    bit true = 1
-    bit false = 0
-first-right (code when false ∷ rest) m p = first-right rest m (p .1)
 
 module _ (block : List ℕ) (bound : ℕ) where
   first-block : 0 < firstOf (refusals block) → firstOf (listRefusals block bound) ≡ firstOf (refusals block)

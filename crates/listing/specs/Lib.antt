@@ -1,4 +1,1 @@
 pub mod Outcomes
-pub mod Positions
-pub mod Ready
-pub mod Searched

@@ -27,7 +27,7 @@ pub fn clear(out: &mut [u8])
 }
 
 // Whether a is below b in byte order.
-fn below(a: &[u8], b: &[u8]) -> bool
+pub fn below(a: &[u8], b: &[u8]) -> bool
     requires { ⌜ length (now a) ≡ length (now b) ⌝ }
     ensures { λ x. ⌜ x ≡ isBelow (now (a .entry)) (now (b .entry)) ⌝ }
 {
@@ -87,7 +87,7 @@ fn move_up(tail: &mut [u8], used: usize)
 }
 
 // Writes r over the first bytes.
-fn write(tail: &mut [u8], r: &[u8])
+pub fn write(tail: &mut [u8], r: &[u8])
     requires { ⌜ length (now r) ≤ length (now tail) ⌝ }
     ensures { λ _. ⌜ now (tail .exit) ≡ now (r .entry) ++ drop (length (now (r .entry))) (now (tail .entry)) ⌝ }
 {

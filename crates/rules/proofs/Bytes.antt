@@ -8,28 +8,19 @@ use native.Mathlib.Omega.{arith}
 use lib.Dec.{ltb}
 use lib.ListN.{length}
 use borrow.Author.Tests.{lt-ltb}
-use Rattle.words.specs.Small.{all, concatMap}
+use Rattle.words.specs.Small.{all}
 use Rattle.words.proofs.Bools.{and-make}
 use Rattle.cases.specs.declared.Case.{Case}
 use Rattle.runs.specs.Outcome.{Leads, Outcome, Cut}
 use Rattle.runs.proofs.Walk.{Walk, stop, go, walk}
 use Rattle.rules.specs.State.{State, initial}
 use Rattle.rules.specs.Step.{Step, issue, commit, neither, stepsOf, stepCode}
+use Rattle.rules.specs.Bytes.{stepBytes, bytesOf}
 use Rattle.rules.specs.Result.{finished, registers}
 use Rattle.rules.specs.Womm.{womm}
 use Rattle.rules.proofs.Accepted.{can-issue, can-commit, neither-no}
 use Rattle.rules.proofs.Steps.{Spent, spent-step, spent-initial, at-most-96}
 use Rattle.rules.proofs.Sources.{Unset, unset-initial, unset-step, source-low}
-
--- the four bytes of a step
-abbrev pub stepBytes : Step → List ℕ
-stepBytes (issue p) = 0 ∷ p ∷ 0 ∷ 0 ∷ []
-stepBytes (commit p k e) = 1 ∷ p ∷ k ∷ e ∷ []
-stepBytes neither = 2 ∷ 0 ∷ 0 ∷ 0 ∷ []
-
--- the bytes of a schedule
-abbrev pub bytesOf : List Step → List ℕ
-bytesOf ts = concatMap stepBytes ts
 
 pub bytes-steps : (ts : List Step) → stepsOf (bytesOf ts) ≡ ts
 bytes-steps [] = refl

@@ -1,12 +1,13 @@
 -- An accepted schedule has a step for each action issued and one for each committed: at most 96. Assumes nothing.
-use mathlib.Core.Path.{_≡_, refl, sym, ap}
+use mathlib.Core.Path.{_≡_, refl, sym, _∙_, ap}
+use mathlib.Core.Bool.{true, false, false≢true}
 use mathlib.Core.List.{List}
 use mathlib.Core.Option.{Option, none, some}
 use Prim.Native.Nat.{ℕ, zero, suc, _+_, _≤_, _<_}
 use native.Mathlib.Omega.{arith}
 use lib.ListN.{length}
 use borrow.Author.Tests.{leb-false}
-use Rattle.words.specs.Small.{put}
+use Rattle.words.specs.Small.{isNone, put}
 use Rattle.words.proofs.Bools.{put-same, put-other}
 use Rattle.cases.specs.declared.Case.{Case}
 use Rattle.runs.specs.Outcome.{Leads, Outcome, Cut}
@@ -50,14 +51,37 @@ spent-put A (suc n) k a v h g e =
     ))
     (λ d. omega (arith, spent-put A n k a v (omega arith) g e, ap (λ (b : Action). took (b .result)) (put-other A k n a (λ x. d (sym x)))))
 
-spent-most : (A : ℕ → Action) (n : ℕ) → spent A n ≤ n + n
+took-most : (o : Option ℕ) → took o ≤ 2
+took-most none = omega arith
+took-most (some v) = omega arith
+
+-- at most two each
+pub spent-most : (A : ℕ → Action) (n : ℕ) → spent A n ≤ n + n
 unfolding spent
 spent-most A zero = omega arith
-spent-most A (suc n) = omega (arith, spent-most A n, most (A n .result))
+spent-most A (suc n) = omega (arith, spent-most A n, took-most (A n .result))
+
+-- two each where all are committed
+pub spent-all : (A : ℕ → Action) (n : ℕ) → ((k : ℕ) → k < n → isNone (A k .result) ≡ false) → spent A n ≡ n + n
+unfolding spent
+spent-all A zero h = refl
+spent-all A (suc n) h = omega (arith, two (A n .result) (h n (omega arith)), spent-all A n (λ k l. h k (omega arith)))
   where
-    most : (o : Option ℕ) → took o ≤ 2
-    most none = omega arith
-    most (some v) = omega arith
+    two : (o : Option ℕ) → isNone o ≡ false → took o ≡ 2
+    two none q = absurd (false≢true (sym q))
+    two (some v) q = refl
+
+-- fewer where one waits
+pub spent-less : (A : ℕ → Action) (n k : ℕ) → k < n → isNone (A k .result) ≡ true → spent A n < n + n
+unfolding spent
+spent-less A zero k h w = absurd (omega arith)
+spent-less A (suc n) k h w =
+    either k n (λ e. omega (arith, spent-most A n, one (A n .result) (ap (λ (j : ℕ). isNone (A j .result)) (sym e) ∙ w)))
+    (λ d. omega (arith, spent-less A n k (omega (arith, h, d)) w, took-most (A n .result)))
+  where
+    one : (o : Option ℕ) → isNone o ≡ true → took o ≡ 1
+    one none q = refl
+    one (some v) q = absurd (false≢true q)
 
 -- after n steps
 pub record Spent (n : ℕ) (s : State) : Type 0 where

@@ -4,6 +4,7 @@ pub mod State
 pub mod Issue
 pub mod Commit
 pub mod Step
+pub mod Bytes
 pub mod Result
 pub mod Womm
 pub mod Origin

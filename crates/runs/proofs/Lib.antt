@@ -7,3 +7,7 @@ pub mod Stable
 pub mod Search
 pub mod Sorted
 pub mod Exists
+pub mod Reachable
+pub mod Lowest
+pub mod Least
+pub mod Asked

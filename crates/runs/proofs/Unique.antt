@@ -52,7 +52,7 @@ same-members (r ∷ rs) (q ∷ qs) h k v w =
 pub records-unique : (O : List ℕ → Type 0) (rs qs : List (List ℕ)) → RecordsOf O rs → RecordsOf O qs → rs ≡ qs
 records-unique O rs qs x y = same-members rs qs (x .sorted) (y .sorted) (λ r k. y .members r .1 (x .members r .0 k)) (λ r k. x .members r .1 (y .members r .0 k))
 
-same-mark : {X : Type 0} (a b : Bool) → (a ≡ true) ↔ X → (b ≡ true) ↔ X → a ≡ b
+pub same-mark : {X : Type 0} (a b : Bool) → (a ≡ true) ↔ X → (b ≡ true) ↔ X → a ≡ b
 same-mark true true p q = refl
 same-mark true false p q = absurd (false≢true (q .1 (p .0 refl)))
 same-mark false true p q = absurd (false≢true (p .1 (q .0 refl)))

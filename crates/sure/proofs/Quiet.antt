@@ -27,10 +27,11 @@ use Rattle.rules.proofs.Closed.{joined-keeps}
 use Rattle.rules.proofs.Orders.{joinedIf-false}
 use Rattle.rules.proofs.Accepted.{still, after-commit, Visible, can-issue, visible-make, can-commit, neither-no, counting-mem, finished-still, between}
 use Rattle.sure.specs.Quiet.{ended, pending, quiet}
+use Rattle.sure.specs.Told.{Done, Open}
 use Rattle.sure.proofs.Kept.{holds-kept, ready-kept, queue-put, values-put, Kept, kept-commit, waits-none, waits-proc, input-same, item-kept, carry, settled-same}
 use Rattle.sure.proofs.Good.{turning-at, good, good-initial, Good, good-step}
 use Rattle.sure.proofs.Commits.{acquired, unbarred, placesBy, holdersBy, item-test}
-use Rattle.sure.proofs.Reduce.{Done, Open, done-from, done-to, open-from, open-to}
+use Rattle.sure.proofs.Reduce.{done-from, done-to, open-from, open-to}
 use Rattle.sure.proofs.Commit.{settledBy, Commit, input, CanTake, releases, can-take, asStep, resultBy, sees-take, the, self, committedBy, take-ok, item, holds, after-take}
 use Rattle.sure.proofs.Held.{read-only}
 

@@ -15,15 +15,7 @@ use Rattle.rules.specs.State.{State}
 use Rattle.rules.specs.Step.{after, stepCode, Step}
 use Rattle.rules.specs.Womm.{womm}
 use Rattle.rules.proofs.Accepted.{finished-still}
-
--- an unfinished run of exactly n steps, and a finished one of at most n
-pub data Open (c : Case) : State → ℕ → Type 0 where
-  now : {s : State} → finished c s ≡ false → Open c s 0
-  later : {s : State} {n : ℕ} (t : Step) → stepCode c s t ≡ 0 → Open c (after c s t) n → Open c s (suc n)
-
-pub data Done (c : Case) : State → ℕ → List ℕ → Type 0 where
-  now : {s : State} {n : ℕ} {r : List ℕ} → finished c s ≡ true → registers c s ≡ r → Done c s n r
-  later : {s : State} {n : ℕ} {r : List ℕ} (t : Step) → stepCode c s t ≡ 0 → Done c (after c s t) n r → Done c s (suc n) r
+use Rattle.sure.specs.Told.{Open, Done}
 
 module _ (c : Case) where
   pub done-from : (n : ℕ) {s : State} {r : List ℕ} → Done c s n r → OutcomeFrom (womm c) s n r

@@ -22,9 +22,9 @@ use Rattle.rules.specs.State.{Action, standsAt, itemValue, State, valueOf, give
 use Rattle.rules.specs.Step.{neither, commit, stepCode, after, issue, Step}
 use Rattle.rules.specs.Issue.{earlier, address, next, placeAfter, renamed, here, issued, bound, newAction}
 use Rattle.rules.proofs.Accepted.{between, neither-no, can-issue, CanIssue, issue-ok, after-issue}
+use Rattle.sure.specs.Told.{Done, Open}
 use Rattle.sure.proofs.Kept.{issued-old, committed-field, waits-proc}
 use Rattle.sure.proofs.Commits.{acquired, joins, placesBy, holdersBy}
-use Rattle.sure.proofs.Reduce.{Done, Open}
 use Rattle.sure.proofs.Swap.{swap, swap-twice, swap-low, swap-high, swap-small, swap-eqb, swap-item, swap-before, below-swap, put-swapped, swapOrder, joinedIf-swapped}
 use Rattle.sure.proofs.Commit.{self, resultBy, CanTake, item, holds, asStep, settledBy, Commit, can-take, the, committedBy, releases, take-ok, after-take, input}
 

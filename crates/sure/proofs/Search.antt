@@ -5,21 +5,24 @@ use mathlib.Core.Bool.{true, false, false≢true}
 use mathlib.Core.List.{List}
 use Prim.Native.Nat.{ℕ, zero, suc}
 use Rattle.cases.specs.declared.Case.{Case}
+use Rattle.runs.specs.Reachable.{Reachable}
 use Rattle.runs.proofs.Walk.{stop, go}
+use Rattle.runs.proofs.Always.{always-after}
 use Rattle.rules.specs.Result.{finished, registers}
 use Rattle.rules.specs.State.{State, initial}
 use Rattle.rules.specs.Step.{after, stepCode, commit, Step}
+use Rattle.rules.specs.Womm.{womm}
 use Rattle.rules.proofs.Accepted.{finished-still}
 use Rattle.sure.specs.Quiet.{quiet}
 use Rattle.sure.specs.Sure.{Sized, sure}
-use Rattle.sure.specs.Spent.{wakes, Key, stepBy, Spent, fresh}
+use Rattle.sure.specs.Spent.{wakes, Key, stepBy, Spent, fresh, Rested, Through, Else}
+use Rattle.sure.specs.Told.{Done, Open}
 use Rattle.sure.proofs.Good.{Good}
-use Rattle.sure.proofs.Reduce.{Done, Open}
 use Rattle.sure.proofs.Quiet.{Taken, done-read, open-read}
 use Rattle.sure.proofs.Moves.{Alike}
 use Rattle.sure.proofs.Whole.{Reached, reached, reached-initial, done-alone, open-alone}
 use Rattle.sure.proofs.Firm.{Firm, firm-step, firm-initial}
-use Rattle.sure.proofs.Spent.{Rested, Through, Else, to-front}
+use Rattle.sure.proofs.Spent.{to-front}
 use Rattle.sure.proofs.Whole
 
 -- what is known of each reachable state
@@ -27,11 +30,14 @@ pub record Known (c : Case) (s : State) : Type 0 where
   pub reached : Reached c s
   pub firm : Firm s
 
-pub known-after : (c : Case) (s : State) (t : Step) → Known c s → stepCode c s t ≡ 0 → Known c (after c s t)
+known-after : (c : Case) (s : State) (t : Step) → Known c s → stepCode c s t ≡ 0 → Known c (after c s t)
 known-after c s t K h = record { reached = reached c (go h (stop refl)) (K .reached); firm = firm-step c s (K .reached .good) (K .firm) t h }
 
-pub known-initial : (c : Case) → Known c (initial c)
+known-initial : (c : Case) → Known c (initial c)
 known-initial c = record { reached = reached-initial c; firm = firm-initial c }
+
+pub known : {c : Case} {s : State} → Reachable (womm c) s → Known c s
+known {c} {s} r = always-after (womm c) (Known c) (λ s t h K. known-after c s t K h) (known-initial c) (r .schedule) s (r .leads)
 
 -- a first step
 pub record Next (c : Case) (P : State → ℕ → Type 0) (s : State) (n : ℕ) : Type 0 where
@@ -74,6 +80,17 @@ module _ (c : Case) (Z : Sized c) where
     where
       next : (s : State) (n : ℕ) → finished c s ≡ false → Open c s (suc n) → Next c (Open c) s n
       next s n f (Open.later t h d) = record { step = t; fits = h; then′ = d }
+
+-- runs of which something holds besides
+pub runs-and : (c : Case) {P : State → ℕ → Type 0} (A : Type 0) → Runs c P → Runs c (λ s n. P s n × A)
+runs-and c A L =
+    record {
+      later = λ s t n h d. (L .later s t n h (d .0), d .1);
+      alike = λ a b n e d. (L .alike a b n e (d .0), d .1);
+      next = λ s n f d. let x = L .next s n f (d .0) in record { step = x .step; fits = x .fits; then′ = (x .then′, d .1) };
+      alone = λ s t n K h q d. (L .alone s t n K h q (d .0), d .1);
+      reads = λ s p k e n G h q d. let x = L .reads s p k e n G h q (d .0) in record { source = x .source; fits = x .fits; then′ = (x .then′, d .1) };
+    }
 
 -- a finished machine takes no step
 pub at-end : (c : Case) {s : State} {n : ℕ} {r : List ℕ} → finished c s ≡ true → Done c s n r → registers c s ≡ r

@@ -15,7 +15,7 @@ use Rattle.rules.specs.Commit.{committed}
 use Rattle.rules.specs.State.{kindOf, Action, State}
 use Rattle.rules.specs.Step.{issue, after, stepCode, commit, neither, Step}
 use Rattle.rules.proofs.Accepted.{can-commit, after-issue, neither-no}
-use Rattle.sure.specs.Spent.{Spent, wakes, asleep, restable, rivals, taking, Key, issuing, stepBy, restful}
+use Rattle.sure.specs.Spent.{Spent, wakes, asleep, restable, rivals, taking, Key, issuing, stepBy, restful, Rests, Resting, Rested, Through, Else}
 use Rattle.sure.proofs.Kept.{issued-old, committed-field, waits-none, waits-proc}
 use Rattle.sure.proofs.Good.{Good}
 use Rattle.sure.proofs.Commits.{Apart, turned, can-after, unread-after, commits-meet, acquires-meet}
@@ -123,33 +123,6 @@ keyed c s (commit p k e) h =
       sleeps = λ sp. refl;
     }
 keyed c s neither h = absurd (neither-no c s h)
-
--- action k is a read or an acquire, and while it is in the queue its commit from e is accepted
-pub record Rests (c : Case) (s : State) (k e : ℕ) : Type 0 where
-  pub there : k < s .count
-  pub kinds : restable (kindOf (s .actions k)) ≡ true
-  pub fits : s .actions k .result ≡ none → stepCode c s (stepBy s (taking k e)) ≡ 0
-
--- what holds of a spent step: it is accepted, unless it has been taken
-abbrev pub Resting : Case → State → Key → Type 0
-Resting c s (taking k e) = Rests c s k e
-Resting c s (issuing p) = stepCode c s (issue p) ≡ 0
-
--- THE INVARIANT of what is spent
-abbrev pub Rested : Case → State → Spent → Type 0
-Rested c s sp = (a : Key) → sp a ≡ true → Resting c s a
-
--- P after some spent step
-pub record Through (c : Case) (sp : Spent) (P : State → Type 0) (s : State) : Type 0 where
-  pub key : Key
-  pub rests : sp key ≡ true
-  pub fits : stepCode c s (stepBy s key) ≡ 0
-  pub then′ : P (after c s (stepBy s key))
-
--- the same, of a run with n steps to go
-abbrev pub Else : Case → Spent → (State → ℕ → Type 0) → State → ℕ → Type 0
-Else c sp P s zero = ⊥
-Else c sp P s (suc n) = Through c sp (λ x. P x n) s
 
 -- an action that u, taken at s, leaves in the queue
 record Before (c : Case) (s : State) (u : Step) (k : ℕ) : Type 0 where

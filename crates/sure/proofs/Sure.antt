@@ -15,11 +15,12 @@ use Rattle.rules.specs.State.{State, kindOf}
 use Rattle.rules.specs.Step.{issue, Step, stepCode, commit, neither}
 use Rattle.rules.proofs.Accepted.{still, after-issue, neither-no}
 use Rattle.sure.specs.Sure.{sureKind}
+use Rattle.sure.specs.Told.{Done, Open}
 use Rattle.sure.proofs.Kept.{unheld, issued-old, waits-none, waits-proc}
 use Rattle.sure.proofs.Good.{turning-at, Good, good-step}
 use Rattle.sure.proofs.Commits.{Apart, turned, kept, can-after, unread-after, commits-meet}
 use Rattle.sure.proofs.Moves.{commits-move, commit-moves}
-use Rattle.sure.proofs.Reduce.{Diamond, Done, Open, Laws, diamond-last}
+use Rattle.sure.proofs.Reduce.{Diamond, Laws, diamond-last}
 use Rattle.sure.proofs.Commit.{after-take, CanTake, Commit, asStep, self, can-take, input, the, source-zero}
 use Rattle.sure.proofs.Held.{release-held, sync-held, sure-unacquired, sure-unread}
 

@@ -7,23 +7,25 @@ use Prim.Native.Nat.{ℕ, zero, suc, _+_, _-_, _<_}
 use native.Mathlib.Omega.{arith}
 use lib.Dec.{ltb}
 use borrow.Author.Tests.{ltb-true, ltb-false}
-use Rattle.words.proofs.Bools.{cond-false, decide}
 use Rattle.words.specs.Small.{isNone}
+use Rattle.words.proofs.Bools.{cond-false, decide}
 use Rattle.cases.specs.declared.Case.{Case}
-use Rattle.runs.specs.Outcome.{Outcome, Cut}
+use Rattle.runs.specs.Outcome.{OutcomeFrom, CutFrom}
+use Rattle.runs.specs.Wanted.{Wish}
 use Rattle.rules.specs.Result.{finished, registers}
-use Rattle.rules.specs.State.{kindOf, initial, State, itemValue}
+use Rattle.rules.specs.State.{kindOf, State, itemValue}
 use Rattle.rules.specs.Step.{issue, Step, after, stepCode}
 use Rattle.rules.specs.Womm.{womm}
 use Rattle.rules.specs.Kinds.{reading, acquiring}
 use Rattle.rules.proofs.Accepted.{can-issue}
 use Rattle.sure.specs.Quiet.{quiet}
 use Rattle.sure.specs.Sure.{Sized, sure, sureKind}
-use Rattle.sure.specs.Spent.{stepBy, taking, Spent, issuing, Key, fresh, restful}
+use Rattle.sure.specs.Spent.{stepBy, taking, Spent, issuing, Key, fresh, restful, Resting, Rested, Else}
+use Rattle.sure.specs.Told.{Done, Open, Question, outcome, cut, Run, Told}
 use Rattle.sure.proofs.Good.{Good}
-use Rattle.sure.proofs.Reduce.{Done, Open, done-from, done-to, open-from, open-to}
-use Rattle.sure.proofs.Spent.{keyed, Resting, resting, Rested, rested-step, Else}
-use Rattle.sure.proofs.Search.{Known, Calm, Runs, Tried, done-runs, open-runs, tried-branch, covers-start, at-end, no-more, unspent}
+use Rattle.sure.proofs.Reduce.{done-from, done-to, open-from, open-to}
+use Rattle.sure.proofs.Spent.{keyed, resting, rested-step}
+use Rattle.sure.proofs.Search.{Known, Calm, Runs, Tried, done-runs, open-runs, tried-branch, covers-start, runs-and, at-end, no-more, unspent}
 use Rattle.sure.proofs.Commit.{CanTake, Commit, source-zero, sees-take, self, the, can-take}
 
 -- the source of an accepted read is an item
@@ -40,133 +42,116 @@ source-there c s G t T r = ⊎-elim (λ q. omega (arith, ltb-true (t .source) 8 
         (λ l. absurd (false≢true (sym (sees-take c s t T r .known) ∙ gone q l)))
         (decide (ltb (t .source - 8) (s .count)))
 
--- What is asked of a search: is r an outcome? is a run cut?
-pub data Question : Type 0 where
-  outcome : List ℕ → Question
-  cut : Question
-
--- a run from s with n steps to go that says yes
-abbrev pub Run : Case → Question → State → ℕ → Type 0
-Run c (outcome r) s n = Done c s n r
-Run c cut s n = Open c s n
-
-pub runs : (c : Case) → Sized c → (q : Question) → Runs c (Run c q)
-runs c Z (outcome r) = done-runs c Z r
-runs c Z cut = open-runs c Z
-
--- THE CONTRACT of a search from s with n steps to go and the steps sp spent, that had told B before and has told X after it: it
--- forgets nothing, tells nothing untrue, and misses only runs that may begin with a spent step.
-pub record Told (c : Case) (sp : Spent) (s : State) (n : ℕ) (B X : Question → Type 0) : Type 0 where
-  pub kept : (q : Question) → B q → X q
-  pub sound : (q : Question) → X q → B q ⊎ Run c q s n
-  pub full : (q : Question) → Run c q s n → X q ⊎ Else c sp (Run c q) s n
+pub runs : (c : Case) (W : Wish) → Sized c → (q : Question) → Runs c (Run c W q)
+runs c W Z (outcome r) = runs-and c (W r ≡ true) (done-runs c Z r)
+runs c W Z cut = open-runs c Z
 
 -- the runs from s that begin with t are done with
-abbrev pub Tested : Case → Spent → State → ℕ → (Question → Type 0) → Step → Type 0
-Tested c sp s n X t = (q : Question) → Tried c (Run c q) sp s n (X q) t
+abbrev pub Tested : Case → Wish → Spent → State → ℕ → (Question → Type 0) → Step → Type 0
+Tested c W sp s n X t = (q : Question) → Tried c (Run c W q) sp s n (X q) t
 
 -- THE INVARIANT of its loop over the steps from s, where by now X is told and the steps `now` are spent
-pub record Sweep (c : Case) (sp : Spent) (s : State) (n : ℕ) (now : Spent) (B X : Question → Type 0) : Type 0 where
+pub record Sweep (c : Case) (W : Wish) (sp : Spent) (s : State) (n : ℕ) (now : Spent) (B X : Question → Type 0) : Type 0 where
   pub rested : Rested c s now
   pub kept : (q : Question) → B q → X q
-  pub sound : (q : Question) → X q → B q ⊎ Run c q s (suc n)
-  pub covered : (a : Key) → now a ≡ true → stepCode c s (stepBy s a) ≡ 0 → Tested c sp s n X (stepBy s a)
+  pub sound : (q : Question) → X q → B q ⊎ Run c W q s (suc n)
+  pub covered : (a : Key) → now a ≡ true → stepCode c s (stepBy s a) ≡ 0 → Tested c W sp s n X (stepBy s a)
 
-module _ (c : Case) (s : State) (sp : Spent) (B X : Question → Type 0) (keeps : (q : Question) → B q → X q) where
-  -- a finished state: its registers are told
-  pub told-end : (n : ℕ) → finished c s ≡ true → ((q : Question) → X q → B q ⊎ (q ≡ outcome (registers c s))) → X (outcome (registers c s))
-      → Told c sp s n B X
+module _ (c : Case) (W : Wish) (s : State) (sp : Spent) (B X : Question → Type 0) (keeps : (q : Question) → B q → X q) where
+  -- a finished state: its registers are told, if they are wanted
+  pub told-end : (n : ℕ) → finished c s ≡ true → ((q : Question) → X q → B q ⊎ ((q ≡ outcome (registers c s)) × (W (registers c s) ≡ true)))
+      → (W (registers c s) ≡ true → X (outcome (registers c s))) → Told c W sp s n B X
   told-end n f new x =
       record {
         kept = keeps;
-        sound = λ q y. ⊎-elim (λ b. inl b) (λ e. inr (subst (λ (q : Question). Run c q s n) (sym e) (Done.now f refl))) (new q y);
+        sound = λ q y. ⊎-elim (λ b. inl b) (λ e. inr (subst (λ (q : Question). Run c W q s n) (sym (e .0)) (Done.now f refl, e .1))) (new q y);
         full = full n;
       }
     where
-      full : (n : ℕ) (q : Question) → Run c q s n → X q ⊎ Else c sp (Run c q) s n
-      full n (outcome r) d = inl (subst (λ (r : List ℕ). X (outcome r)) (at-end c f d) x)
+      full : (n : ℕ) (q : Question) → Run c W q s n → X q ⊎ Else c sp (Run c W q) s n
+      full n (outcome r) d = inl (subst (λ (r : List ℕ). W r ≡ true → X (outcome r)) (at-end c f (d .0)) x (d .1))
       full zero cut (Open.now g) = absurd (false≢true (sym g ∙ f))
       full (suc n) cut d = absurd (no-more c f d)
 
   -- no step to go at an unfinished state: the cut is told
-  pub told-bound : finished c s ≡ false → ((q : Question) → X q → B q ⊎ (q ≡ cut)) → X cut → Told c sp s 0 B X
+  pub told-bound : finished c s ≡ false → ((q : Question) → X q → B q ⊎ (q ≡ cut)) → X cut → Told c W sp s 0 B X
   told-bound f new x =
       record {
         kept = keeps;
-        sound = λ q y. ⊎-elim (λ b. inl b) (λ e. inr (subst (λ (q : Question). Run c q s 0) (sym e) (Open.now f))) (new q y);
+        sound = λ q y. ⊎-elim (λ b. inl b) (λ e. inr (subst (λ (q : Question). Run c W q s 0) (sym e) (Open.now f))) (new q y);
         full = full;
       }
     where
-      full : (q : Question) → Run c q s 0 → X q ⊎ Else c sp (Run c q) s 0
-      full (outcome r) (Done.now g e) = absurd (false≢true (sym f ∙ g))
+      full : (q : Question) → Run c W q s 0 → X q ⊎ Else c sp (Run c W q) s 0
+      full (outcome r) (Done.now g e, w) = absurd (false≢true (sym f ∙ g))
       full cut d = inl x
 
-module _ (c : Case) (Z : Sized c) (s : State) (sp : Spent) (K : Known c s) (n : ℕ) where
+module _ (c : Case) (W : Wish) (Z : Sized c) (s : State) (sp : Spent) (K : Known c s) (n : ℕ) where
   -- what a branch may start from
   pub rested-after : {now : Spent} → Rested c s now → (t : Step) → stepCode c s t ≡ 0 → (z : Spent) → Calm s t now z → Rested c (after c s t) z
   rested-after R t h z N = rested-step c s (K .reached .good) (K .firm) t h z (λ a x. R a (N a x .0)) (λ a x. N a x .1)
 
   -- the loop starts
-  pub sweep-start : {B : Question → Type 0} → Rested c s sp → Sweep c sp s n sp B B
+  pub sweep-start : {B : Question → Type 0} → Rested c s sp → Sweep c W sp s n sp B B
   sweep-start {B} R =
-      record { rested = R; kept = λ q b. b; sound = λ q b. inl b; covered = λ a h f q. covers-start c (Run c q) (runs c Z q) s n sp (B q) a h f }
+      record { rested = R; kept = λ q b. b; sound = λ q b. inl b; covered = λ a h f q. covers-start c (Run c W q) (runs c W Z q) s n sp (B q) a h f }
 
-  pub tested-more : {X Y : Question → Type 0} (t : Step) → ((q : Question) → X q → Y q) → Tested c sp s n X t → Tested c sp s n Y t
+  pub tested-more : {X Y : Question → Type 0} (t : Step) → ((q : Question) → X q → Y q) → Tested c W sp s n X t → Tested c W sp s n Y t
   tested-more t f T q d = ⊎-elim (λ x. inl (f q x)) (λ o. inr o) (T q d)
 
-  module _ {now : Spent} {B X : Question → Type 0} (S : Sweep c sp s n now B X) where
+  module _ {now : Spent} {B X : Question → Type 0} (S : Sweep c W sp s n now B X) where
     -- the branch of t, where z of what is spent by now stays spent
     module _ (t : Step) (h : stepCode c s t ≡ 0) where
-      module _ (z : Spent) (N : Calm s t now z) {Y : Question → Type 0} (W : Told c z (after c s t) n X Y) where
-        pub tested-branch : Tested c sp s n Y t
+      module _ (z : Spent) (N : Calm s t now z) {Y : Question → Type 0} (D : Told c W z (after c s t) n X Y) where
+        pub tested-branch : Tested c W sp s n Y t
         tested-branch q =
-            tried-branch c (Run c q) (runs c Z q) s n sp (Y q) K now (S .rested)
-            (λ a x y. tested-more (stepBy s a) (W .kept) (S .covered a x y) q)
-            t h z N (W .full q)
+            tried-branch c (Run c W q) (runs c W Z q) s n sp (Y q) K now (S .rested)
+            (λ a x y. tested-more (stepBy s a) (D .kept) (S .covered a x y) q)
+            t h z N (D .full q)
 
-        pub sweep-branch : Sweep c sp s n now B Y
+        pub sweep-branch : Sweep c W sp s n now B Y
         sweep-branch =
             record {
               rested = S .rested;
-              kept = λ q b. W .kept q (S .kept q b);
-              sound = λ q y. ⊎-elim (S .sound q) (λ d. inr (runs c Z q .later s t n h d)) (W .sound q y);
-              covered = λ a x y. tested-more (stepBy s a) (W .kept) (S .covered a x y);
+              kept = λ q b. D .kept q (S .kept q b);
+              sound = λ q y. ⊎-elim (S .sound q) (λ d. inr (runs c W Z q .later s t n h d)) (D .sound q y);
+              covered = λ a x y. tested-more (stepBy s a) (D .kept) (S .covered a x y);
             }
 
       -- what a branch that had no room for all has seen
-      pub sweep-lacks : (q : Question) → X q ⊎ Run c q (after c s t) n → B q ⊎ Run c q s (suc n)
-      sweep-lacks q w = ⊎-elim (S .sound q) (λ d. inr (runs c Z q .later s t n h d)) w
+      pub sweep-lacks : (q : Question) → X q ⊎ Run c W q (after c s t) n → B q ⊎ Run c W q s (suc n)
+      sweep-lacks q w = ⊎-elim (S .sound q) (λ d. inr (runs c W Z q .later s t n h d)) w
 
     -- one turn of the loop: the branch of the key a, which is spent from then on
     pub sweep-turn : (a : Key) → stepCode c s (stepBy s a) ≡ 0 → restful s a ≡ true → (z : Spent) → Calm s (stepBy s a) now z
-        → {Y : Question → Type 0} → Told c z (after c s (stepBy s a)) n X Y
-        → (more : Spent) → ((b : Key) → more b ≡ true → (now b ≡ true) ⊎ (b ≡ a)) → Sweep c sp s n more B Y
-    sweep-turn a h r z N {Y} W more M =
-        let S′ = sweep-branch (stepBy s a) h z N W in
-        let new : Resting c s a × Tested c sp s n Y (stepBy s a) = (resting c s a h r, tested-branch (stepBy s a) h z N W) in
+        → {Y : Question → Type 0} → Told c W z (after c s (stepBy s a)) n X Y
+        → (more : Spent) → ((b : Key) → more b ≡ true → (now b ≡ true) ⊎ (b ≡ a)) → Sweep c W sp s n more B Y
+    sweep-turn a h r z N {Y} D more M =
+        let S′ = sweep-branch (stepBy s a) h z N D in
+        let new : Resting c s a × Tested c W sp s n Y (stepBy s a) = (resting c s a h r, tested-branch (stepBy s a) h z N D) in
         record {
           rested = λ b x. ⊎-elim (S′ .rested b) (λ e. subst (Resting c s) (sym e) (new .0)) (M b x);
           kept = S′ .kept;
           sound = S′ .sound;
-          covered = λ b x y. ⊎-elim (λ m. S′ .covered b m y) (λ e. subst (λ (b : Key). Tested c sp s n Y (stepBy s b)) (sym e) (new .1)) (M b x);
+          covered = λ b x y. ⊎-elim (λ m. S′ .covered b m y) (λ e. subst (λ (b : Key). Tested c W sp s n Y (stepBy s b)) (sym e) (new .1)) (M b x);
         }
 
     -- a step that is spent by now is done with
-    settle : (a : Key) → stepCode c s (stepBy s a) ≡ 0 → (now a ≡ true) ⊎ Tested c sp s n X (stepBy s a) → Tested c sp s n X (stepBy s a)
+    settle : (a : Key) → stepCode c s (stepBy s a) ≡ 0 → (now a ≡ true) ⊎ Tested c W sp s n X (stepBy s a) → Tested c W sp s n X (stepBy s a)
     settle a h w = ⊎-elim (λ e. S .covered a e h) (λ T. T) w
 
     -- every accepted step is spent by now or done with
-    pub told-all : finished c s ≡ false → ((a : Key) → stepCode c s (stepBy s a) ≡ 0 → (now a ≡ true) ⊎ Tested c sp s n X (stepBy s a))
-        → Told c sp s (suc n) B X
+    pub told-all : finished c s ≡ false → ((a : Key) → stepCode c s (stepBy s a) ≡ 0 → (now a ≡ true) ⊎ Tested c W sp s n X (stepBy s a))
+        → Told c W sp s (suc n) B X
     told-all f T =
         record {
           kept = S .kept;
           sound = S .sound;
           full = λ q d.
-              let x = runs c Z q .next s n f d in
+              let x = runs c W Z q .next s n f d in
               let k = keyed c s (x .step) (x .fits) in
               let h = subst (λ (u : Step). stepCode c s u ≡ 0) (k .names) (x .fits) in
-              settle (k .key) h (T (k .key) h) q (subst (λ (u : Step). Run c q (after c s u) n) (k .names) (x .then′));
+              settle (k .key) h (T (k .key) h) q (subst (λ (u : Step). Run c W q (after c s u) n) (k .names) (x .then′));
         }
 
     -- the same by sorts: no sure commit is accepted, and each accepted read, acquire and issue is spent by now
@@ -175,7 +160,7 @@ module _ (c : Case) (Z : Sized c) (s : State) (sp : Spent) (K : Known c s) (n : 
         → ((k e : ℕ) → k < s .count → e < 8 + s .count → reading (kindOf (s .actions k)) ≡ true → stepCode c s (stepBy s (taking k e)) ≡ 0 → now (taking k e) ≡ true)
         → ((k : ℕ) → k < s .count → acquiring (kindOf (s .actions k)) ≡ true → stepCode c s (stepBy s (taking k 0)) ≡ 0 → now (taking k 0) ≡ true)
         → ((p : ℕ) → p < c .procs → stepCode c s (issue p) ≡ 0 → now (issuing p) ≡ true)
-        → Told c sp s (suc n) B X
+        → Told c W sp s (suc n) B X
     told-rest f no-sure read-noted acquire-noted issue-noted = told-all f each
       where
         at : (k e : ℕ) → stepCode c s (stepBy s (taking k e)) ≡ 0 → CanTake c s (the (s .actions k .proc) k e)
@@ -190,7 +175,7 @@ module _ (c : Case) (Z : Sized c) (s : State) (sp : Spent) (K : Known c s) (n : 
             (λ a. absurd (no-sure k (at k e h .there) (ap₂ (λ (x y : Bool). not (x || y)) r a) h₀))
             (decide (acquiring (kindOf (s .actions k)))))
 
-        each : (a : Key) → stepCode c s (stepBy s a) ≡ 0 → (now a ≡ true) ⊎ Tested c sp s n X (stepBy s a)
+        each : (a : Key) → stepCode c s (stepBy s a) ≡ 0 → (now a ≡ true) ⊎ Tested c W sp s n X (stepBy s a)
         each (taking k e) h =
             let there : reading (kindOf (s .actions k)) ≡ true → e < 8 + s .count = λ r. source-there c s (K .reached .good) (the (s .actions k .proc) k e) (at k e h) r in
             inl (⊎-elim (λ r. read-noted k e (at k e h .there) (there r) r h) (plain k e h) (decide (reading (kindOf (s .actions k)))))
@@ -198,28 +183,28 @@ module _ (c : Case) (Z : Sized c) (s : State) (sp : Spent) (K : Known c s) (n : 
 
     -- the same of the sources of a quiet read, and it is enough
     pub told-quiet : (k e : ℕ) → stepCode c s (stepBy s (taking k e)) ≡ 0 → quiet c s k ≡ true
-        → ((e : ℕ) → stepCode c s (stepBy s (taking k e)) ≡ 0 → (now (taking k e) ≡ true) ⊎ Tested c sp s n X (stepBy s (taking k e)))
-        → Told c sp s (suc n) B X
+        → ((e : ℕ) → stepCode c s (stepBy s (taking k e)) ≡ 0 → (now (taking k e) ≡ true) ⊎ Tested c W sp s n X (stepBy s (taking k e)))
+        → Told c W sp s (suc n) B X
     told-quiet k e h p T =
         record {
           kept = S .kept;
           sound = S .sound;
           full = λ q d.
-              let x = runs c Z q .reads s (s .actions k .proc) k e n (K .reached .good) h p d in
+              let x = runs c W Z q .reads s (s .actions k .proc) k e n (K .reached .good) h p d in
               settle (taking k (x .source)) (x .fits) (T (x .source) (x .fits)) q (x .then′);
         }
 
--- THE THEOREM for code: a search from the start with nothing spent and nothing told before tells the outcomes and nothing besides,
--- and the cut.
-module _ (c : Case) (Z : Sized c) (n : ℕ) (B X : Question → Type 0) (nothing : (q : Question) → B q → ⊥) (W : Told c fresh (initial c) n B X) where
-  yes : (q : Question) → Run c q (initial c) n → X q
-  yes q d = ⊎-elim (λ x. x) (λ o. absurd (unspent c (Run c q) n (initial c) o)) (W .full q d)
+-- THE THEOREM for code: a search from s with nothing spent and nothing told before tells the outcomes that are wanted and nothing
+-- besides, and the cut.
+module _ (c : Case) (W : Wish) (s : State) (n : ℕ) (B X : Question → Type 0) (nothing : (q : Question) → B q → ⊥) (T : Told c W fresh s n B X) where
+  yes : (q : Question) → Run c W q s n → X q
+  yes q d = ⊎-elim (λ x. x) (λ o. absurd (unspent c (Run c W q) n s o)) (T .full q d)
 
-  only : (q : Question) → X q → Run c q (initial c) n
-  only q x = ⊎-elim (λ b. absurd (nothing q b)) (λ d. d) (W .sound q x)
+  only : (q : Question) → X q → Run c W q s n
+  only q x = ⊎-elim (λ b. absurd (nothing q b)) (λ d. d) (T .sound q x)
 
-  pub told-outcomes : (r : List ℕ) → X (outcome r) ↔ Outcome (womm c) n r
-  told-outcomes r = (λ x. done-from c n (only (outcome r) x), λ o. yes (outcome r) (done-to c n (initial c) r o))
+  pub told-outcomes : (r : List ℕ) → X (outcome r) ↔ (OutcomeFrom (womm c) s n r × (W r ≡ true))
+  told-outcomes r = (λ x. let d = only (outcome r) x in (done-from c n (d .0), d .1), λ o. yes (outcome r) (done-to c n s r (o .0), o .1))
 
-  pub told-cut : X cut ↔ Cut (womm c) n
-  told-cut = (λ x. open-from c (only cut x), λ o. yes cut (open-to c n (initial c) o))
+  pub told-cut : X cut ↔ CutFrom (womm c) s n
+  told-cut = (λ x. open-from c (only cut x), λ o. yes cut (open-to c n s o))

@@ -21,10 +21,11 @@ use Rattle.rules.specs.Issue.{issued}
 use Rattle.rules.specs.Womm.{womm}
 use Rattle.rules.proofs.Accepted.{after-issue, still, CanIssue, can-issue, neither-no}
 use Rattle.sure.specs.Sure.{Sized, forward, sure, roomy}
+use Rattle.sure.specs.Told.{Done, Open}
 use Rattle.sure.proofs.Good.{Good, good-step, good-initial}
 use Rattle.sure.proofs.Pairs.{stays}
 use Rattle.sure.proofs.Moves.{Alike, same, turned, other-way, commit-moves, issues-pass}
-use Rattle.sure.proofs.Reduce.{Done, Open, Diamond, Laws, diamond-last, open-to, done-sure, open-from, open-sure, done-to, done-from}
+use Rattle.sure.proofs.Reduce.{Diamond, Laws, diamond-last, open-to, done-sure, open-from, open-sure, done-to, done-from}
 use Rattle.sure.proofs.Sure.{IsSureCommit, sure-commit}
 use Rattle.sure.proofs.Renumber.{done-swap, open-swap}
 use Rattle.sure.proofs.Room.{Forward, Counted, room, counted-step, counted-initial, forward-cases}

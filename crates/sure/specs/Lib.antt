@@ -1,3 +1,4 @@
 pub mod Sure
 pub mod Quiet
 pub mod Spent
+pub mod Told

@@ -1,10 +1,13 @@
 -- Spent steps: steps whose branch a search has been through, so that it may leave them out later on. Assumes nothing.
+use mathlib.Core.Path.{_≡_}
 use mathlib.Core.Bool.{Bool, true, false, _&&_, _||_}
-use Prim.Native.Nat.{ℕ, suc}
+use mathlib.Core.Option.{none}
+use Prim.Native.Nat.{ℕ, zero, suc, _<_}
 use lib.Dec.{eqb, leb}
+use Rattle.cases.specs.declared.Case.{Case}
 use Rattle.rules.specs.Kinds.{reading, acquiring}
 use Rattle.rules.specs.State.{State, Action, kindOf, inputOf}
-use Rattle.rules.specs.Step.{Step, issue, commit, neither}
+use Rattle.rules.specs.Step.{Step, issue, commit, neither, stepCode, after}
 
 -- What may be spent: the commit of action k, a read from item e or an acquire with e = 0; the next issue of processor p.
 pub data Key : Type 0 where
@@ -51,3 +54,30 @@ wakes s (issue p) (issuing q) = eqb q p || leb 48 (suc (s .count))
 wakes s (commit p j f) (taking k e) = rivals s (s .actions j) (s .actions k)
 wakes s (commit p j f) (issuing q) = false
 wakes s neither a = false
+
+-- Action k is a read or an acquire, and while it is in the queue its commit from e is accepted.
+pub record Rests (c : Case) (s : State) (k e : ℕ) : Type 0 where
+  pub there : k < s .count
+  pub kinds : restable (kindOf (s .actions k)) ≡ true
+  pub fits : s .actions k .result ≡ none → stepCode c s (stepBy s (taking k e)) ≡ 0
+
+-- What holds of a spent step: it is accepted, unless it has been taken.
+abbrev pub Resting : Case → State → Key → Type 0
+Resting c s (taking k e) = Rests c s k e
+Resting c s (issuing p) = stepCode c s (issue p) ≡ 0
+
+-- It holds of all that is spent.
+abbrev pub Rested : Case → State → Spent → Type 0
+Rested c s sp = (a : Key) → sp a ≡ true → Resting c s a
+
+-- P after some spent step.
+pub record Through (c : Case) (sp : Spent) (P : State → Type 0) (s : State) : Type 0 where
+  pub key : Key
+  pub rests : sp key ≡ true
+  pub fits : stepCode c s (stepBy s key) ≡ 0
+  pub then′ : P (after c s (stepBy s key))
+
+-- The same, of a run with n steps to go.
+abbrev pub Else : Case → Spent → (State → ℕ → Type 0) → State → ℕ → Type 0
+Else c sp P s zero = ⊥
+Else c sp P s (suc n) = Through c sp (λ x. P x n) s

@@ -1,1 +1,3 @@
 mod One
+mod Marks
+pub mod Asking

@@ -1,6 +1,10 @@
 // The library for a host in another language: byte slices and numbers.
+use clauses::Asked;
+use clauses::Clause;
 ghost use lib.ListN.{length};
+ghost use Rattle.clauses.specs.Wanted.{clausesOf};
 ghost use Rattle.womm.specs.Exports.{ReadAs, WrittenAs, ReplayedAs, ListedAs};
+ghost use Rattle.womm.specs.Asking.{AskedAs};
 
 // Reads a block: 0 where it holds a case, else the first of codes 1 to 7 and 19; and the position that the code carries.
 #[no_mangle]
@@ -59,4 +63,48 @@ pub extern "C" fn womm_outcomes(
     *cut = listed.cut as usize;
     *position = listed.position;
     listed.code as u32
+}
+
+// What asking for one result hands back: the code, the marks of yes and of cut (1 yes, 0 no), the schedule's length in bytes, and the position that a
+// block's code carries, 0 with any other.
+#[repr(C)]
+pub struct Answer {
+    pub code: u32,
+    pub yes: usize,
+    pub length: usize,
+    pub cut: usize,
+    pub position: usize,
+}
+
+// Asks with clauses that are held by value.
+pub fn ask_held<'b, 's>(block: &'b [u8], bound: u32, asked: Asked, schedule: &'s mut [u8]) -> Answer
+    ensures { λ r. ⌜ AskedAs (now (block .entry)) bound (clausesOf asked) (length (now (schedule .entry))) r (now (schedule .exit)) ⌝ }
+{
+    let answer = asking::ask(block, bound, asked, schedule);
+    Answer {
+        code: answer.code as u32,
+        yes: answer.yes as usize,
+        length: answer.length,
+        cut: answer.cut as usize,
+        position: answer.position,
+    }
+}
+
+// Asks whether a finished run within a bound meets all of the clauses, and by which schedule: each clause of the lent slice is read once.
+#[no_mangle]
+pub extern "C" fn womm_ask<'b, 'c, 's>(
+    block: &'b [u8],
+    bound: u32,
+    clauses: &'c [Clause],
+    schedule: &'s mut [u8],
+) -> Answer
+    ensures { λ r. ⌜ AskedAs (now (block .entry)) bound (now (clauses .entry)) (length (now (schedule .entry))) r (now (schedule .exit)) ⌝ }
+{
+    let mut a = clauses::no_clauses();
+    let mut i = 0;
+    while i < clauses.len() {
+        a = clauses::with_clause(a, clauses[i]);
+        i += 1;
+    }
+    ask_held(block, bound, a, schedule)
 }

@@ -1,16 +1,10 @@
 -- A cut mark as the number that stands for it.
-use mathlib.Core.Path.{_≡_, refl}
-use mathlib.Core.Bool.{Bool, true, false}
-use mir.Val.{boolByte}
+use mathlib.Core.Path.{refl}
 use Rattle.listing.specs.Outcomes.{answerOf}
-use Rattle.womm.specs.Exports.{markOf}
+use Rattle.womm.proofs.Marks.{mark}
 use borrow.Author.Needs.{needs}
 use Rattle.womm.proofs.womm_outcomes.Statement.{statement}
 use Rattle.womm.proofs.womm_outcomes.Tie as tie
-
-mark : (b : Bool) → boolByte b ≡ markOf b
-mark true = refl
-mark false = refl
 
 outcomes-requires : tie.Need-outcomes-requires
 outcomes-requires c κs = search needs

@@ -1,0 +1,290 @@
+// Asks whether an outcome that meets some clauses is possible within a bound, and by which schedule.
+use cases::Case;
+use clauses::Asked;
+use clauses::Clause;
+use machine::Machine;
+use searching::Span;
+use searching::Tally;
+ghost use mathlib.Core.Path.{_≡_};
+ghost use mathlib.Core.Bool.{true, false};
+ghost use mathlib.Core.List.{List, [], _∷_};
+ghost use Prim.Native.Nat.{ℕ, _+_, _-_, _≤_, _<_};
+ghost use lib.ListN.{length, set, replicate};
+ghost use Rattle.clauses.specs.Wanted.{wanted, Askable, clausesOf};
+ghost use Rattle.runs.specs.Asking.{Laid, IsAnswer, Refused};
+ghost use Rattle.runs.specs.Reachable.{Reachable};
+ghost use Rattle.rules.specs.Result.{finished};
+ghost use Rattle.rules.specs.Step.{stepCode};
+ghost use Rattle.rules.specs.State.{initial};
+ghost use Rattle.rules.specs.Womm.{womm};
+ghost use Rattle.rules.specs.Bytes.{stepBytes};
+ghost use Rattle.sure.specs.Sure.{forward as isForward};
+ghost use Rattle.machine.specs.Fit.{Fit};
+ghost use Rattle.machine.specs.Shown.{shown};
+ghost use Rattle.machine.specs.Valid.{Valid};
+ghost use Rattle.asking.specs.Asked.{answerOf, badClause, badClauses, IsAsked};
+ghost use Rattle.asking.specs.Inner.{Standing, InReach, ReachOf, stepAt, FirstInReach, RowSpan, LowestAt};
+
+// Whether an outcome is within reach, and, if none is, whether a run was cut.
+pub struct Reach {
+    pub found: bool,
+    pub cut: bool,
+}
+
+// The four bytes of a step.
+pub struct Bytes {
+    pub kind: u8,
+    pub proc: u8,
+    pub action: u8,
+    pub source: u8,
+}
+
+// What asking answers: the code, yes or no, the schedule's length in bytes, the cut mark, and the position that a block's code carries, 0 with any other.
+pub struct Answer {
+    pub code: u8,
+    pub yes: bool,
+    pub length: usize,
+    pub cut: bool,
+    pub position: usize,
+}
+
+// Whether an outcome of m within n steps meets the clauses: a list of those that do, with no room for one.
+fn within_reach(c: Case, m: Machine, n: usize, ahead: bool, asked: Asked) -> Reach
+    requires { ⌜ Standing c m n ahead asked ⌝ }
+    ensures { λ r. ⌜ ReachOf c (wanted asked) (shown c m) n r ⌝ }
+{
+    let mut none = [0u8; 1];
+    let empty = Tally {
+        count: 0,
+        cut: false,
+        full: false,
+    };
+    let tally = searching::explore(c, m, n, ahead, asked, [0u64; 50], &mut none, empty);
+    Reach {
+        found: tally.full,
+        cut: tally.cut,
+    }
+}
+
+// The first position from `from` on after whose step an outcome is within reach, else `to`.
+fn first_in_reach(
+    c: Case,
+    m: Machine,
+    n: usize,
+    ahead: bool,
+    asked: Asked,
+    from: usize,
+    to: usize,
+) -> usize
+    requires { ⌜ Standing c m n ahead asked × (0 < n) × (from ≤ to) × (to ≤ 3200) ⌝ }
+    ensures { λ r. ⌜ FirstInReach c (wanted asked) (shown c m) (n - 1) from to r ⌝ }
+{
+    let none = [0u64; 50];
+    let mut at = from;
+    while at < to {
+        let j = choices::next_step(c, m, &none, at, to);
+        if j < to {
+            let r = within_reach(c, choices::take(c, m, j), n - 1, ahead, asked);
+            if r.found {
+                return j;
+            }
+        }
+        at = j + 1;
+    }
+    to
+}
+
+// The positions of row i: the issues, or the commits of one processor and action.
+fn row_span(c: Case, m: Machine, i: usize) -> Span
+    requires { ⌜ Valid c m × Reachable (womm c) (shown c m) × (i < 193) ⌝ }
+    ensures { λ r. ⌜ RowSpan c (shown c m) i r ⌝ }
+{
+    if i == 0 {
+        return Span {
+            from: 3136,
+            to: 3200,
+        };
+    }
+    let p = (i - 1) / 48;
+    let k = (i - 1) % 48;
+    if m.issued <= k {
+        return Span { from: 0, to: 0 };
+    }
+    let e = m.acts[k];
+    if words::wide(e.proc) != p {
+        return Span { from: 0, to: 0 };
+    }
+    let x = e.instr;
+    if rules::kind_of(x) == 1 {
+        return Span {
+            from: 64 * k,
+            to: 64 * k + 64,
+        };
+    }
+    Span {
+        from: 3072 + k,
+        to: 3073 + k,
+    }
+}
+
+// The position of the lowest step after which an outcome is within reach.
+fn lowest_step(c: Case, m: Machine, n: usize, ahead: bool, asked: Asked) -> usize
+    requires { ⌜ Standing c m n ahead asked × (0 < n) × (finished c (shown c m) ≡ false) × InReach c (wanted asked) (shown c m) n ⌝ }
+    ensures { λ r. ⌜ LowestAt c (wanted asked) (shown c m) (n - 1) r ⌝ }
+{
+    let mut i: usize = 0;
+    while i < 193 {
+        let span = row_span(c, m, i);
+        let to = span.to;
+        let j = first_in_reach(c, m, n, ahead, asked, span.from, to);
+        if j < to {
+            return j;
+        }
+        i += 1;
+    }
+    3200
+}
+
+// The bytes of the step at position j.
+fn bytes_at(c: Case, m: Machine, j: usize) -> Bytes
+    requires { ⌜ Valid c m × (j < 3200) × (stepCode c (shown c m) (stepAt (shown c m) j) ≡ 0) ⌝ }
+    ensures { λ r. ⌜ stepBytes (stepAt (shown c m) j) ≡ (r .kind ∷ r .proc ∷ r .action ∷ r .source ∷ []) ⌝ }
+{
+    if 49 <= j / 64 {
+        return Bytes {
+            kind: 0,
+            proc: (j % 64) as u8,
+            action: 0,
+            source: 0,
+        };
+    }
+    let k = choices::action_at(j);
+    let e = m.acts[k];
+    Bytes {
+        kind: 1,
+        proc: e.proc,
+        action: k as u8,
+        source: choices::source_at(j) as u8,
+    }
+}
+
+// Puts the bytes of a step in at a place.
+fn put_step(out: &mut [u8], at: usize, t: Bytes)
+    requires { ⌜ at + 4 ≤ length (now out) ⌝ }
+    ensures { λ _. ⌜ now (out .exit) ≡ set (set (set (set (now (out .entry)) at (t .kind)) (at + 1) (t .proc)) (at + 2) (t .action)) (at + 3) (t .source) ⌝ }
+{
+    out[at] = t.kind;
+    out[at + 1] = t.proc;
+    out[at + 2] = t.action;
+    out[at + 3] = t.source;
+}
+
+// Lays the lowest schedule to an outcome into a cleared buffer and gives its length.
+fn lowest(c: Case, n: usize, ahead: bool, asked: Asked, out: &mut [u8]) -> usize
+    requires { ⌜ Fit c × (ahead ≡ isForward c) × (n ≤ 96) × Askable asked × InReach c (wanted asked) (initial c) n × (now out ≡ replicate 384 0) ⌝ }
+    ensures { λ r. ⌜ Laid (womm c) (wanted asked) stepBytes n 384 r (now (out .exit)) ⌝ }
+{
+    let mut m = machine::start(c);
+    let mut left = n;
+    let mut at: usize = 0;
+    while left > 0 {
+        let done = machine::finished(c, m);
+        if done {
+            return at;
+        }
+        let j = lowest_step(c, m, left, ahead, asked);
+        put_step(out, at, bytes_at(c, m, j));
+        m = choices::take(c, m, j);
+        left -= 1;
+        at += 4;
+    }
+    at
+}
+
+// Answers for a case, within n steps.
+pub fn settle(c: Case, n: usize, asked: Asked, out: &mut [u8]) -> Answer
+    requires { ⌜ Fit c × (n ≤ 96) × Askable asked × (length (now out) ≡ 384) ⌝ }
+    ensures { λ r. ⌜ IsAnswer (womm c) (wanted asked) stepBytes n 384 (answerOf r) (now (out .exit)) × (r .position ≡ 0) ⌝ }
+{
+    records::clear(out);
+    let ahead = choices::forward(c);
+    let r = within_reach(c, machine::start(c), n, ahead, asked);
+    if r.found {
+        return Answer {
+            code: 0,
+            yes: true,
+            length: lowest(c, n, ahead, asked, out),
+            cut: false,
+            position: 0,
+        };
+    }
+    Answer {
+        code: 0,
+        yes: false,
+        length: 0,
+        cut: r.cut,
+        position: 0,
+    }
+}
+
+// Whether the clause names an absent processor or a register over 7.
+fn unnamed(k: Clause, procs: u8) -> bool
+    ensures { λ r. ⌜ r ≡ badClause procs k ⌝ }
+{
+    (procs <= k.processor) | (7 < k.register)
+}
+
+// Whether there are over 8 clauses, or one names what there is not.
+fn unaskable(asked: Asked, procs: u8) -> bool
+    ensures { λ r. ⌜ r ≡ badClauses procs (clausesOf asked) ⌝ }
+{
+    let top = asked.count;
+    if 8 < top {
+        return true;
+    }
+    let mut found = false;
+    let mut i: usize = 0;
+    while i < top {
+        let k = asked.clauses[i];
+        let b = unnamed(k, procs);
+        found = b | found;
+        i += 1;
+    }
+    found
+}
+
+// Refuses with a code and its position: no, length 0, cut no, and the buffer is all zeros.
+fn refuse(code: u8, position: usize, buffer: &mut [u8]) -> Answer
+    ensures { λ r. ⌜ Refused code (length (now (buffer .entry))) (answerOf r) (now (buffer .exit)) × (r .position ≡ position) ⌝ }
+{
+    records::clear(buffer);
+    Answer {
+        code,
+        yes: false,
+        length: 0,
+        cut: false,
+        position,
+    }
+}
+
+// Whether an outcome of the case that a block holds meets the clauses within `bound` steps, and by which schedule.
+pub fn ask(block: &[u8], bound: u32, asked: Asked, out: &mut [u8]) -> Answer
+    ensures { λ r. ⌜ IsAsked (now (block .entry)) bound (clausesOf asked) (length (now (out .entry))) (answerOf r) (r .position) (now (out .exit)) ⌝ }
+{
+    let read = cases::read_case(block);
+    let code = read.code;
+    if code != 0 {
+        return refuse(code, read.position, out);
+    }
+    if bound > 96 {
+        return refuse(10, 0, out);
+    }
+    let case = read.case;
+    if unaskable(asked, case.procs) {
+        return refuse(12, 0, out);
+    }
+    if out.len() != 384 {
+        return refuse(13, 0, out);
+    }
+    settle(case, bound as usize, asked, out)
+}

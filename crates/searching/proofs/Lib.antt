@@ -1,0 +1,5 @@
+pub mod Opened
+pub mod Ends
+pub mod Loop
+pub mod Returns
+pub mod Starts

@@ -1,0 +1,31 @@
+-- What a search is given. Assumes nothing.
+use mathlib.Core.Path.{_≡_}
+use mathlib.Core.Bool.{Bool, false}
+use mathlib.Core.List.{List}
+use Prim.Native.Nat.{ℕ, _≤_}
+use lib.ListN.{length}
+use Rattle.cases.specs.declared.Case.{Case}
+use Rattle.clauses.specs.declared.Asked.{Asked}
+use Rattle.clauses.specs.Wanted.{Askable}
+use Rattle.runs.specs.Reachable.{Reachable}
+use Rattle.rules.specs.Womm.{womm}
+use Rattle.sure.specs.Sure.{forward}
+use Rattle.sure.specs.Spent.{Rested}
+use Rattle.machine.specs.declared.Machine.{Machine}
+use Rattle.machine.specs.Shown.{shown}
+use Rattle.machine.specs.Valid.{Valid}
+use Rattle.records.specs.Buffer.{Held}
+use Rattle.choices.specs.Words.{spentBy}
+use Rattle.searching.specs.declared.Tally.{Tally}
+
+-- A machine that is reached, with at most 96 steps to go, clauses that can be asked, spent steps that are accepted there, and a buffer with room so far.
+pub record Ready (c : Case) (m : Machine) (n : ℕ) (ahead : Bool) (asked : Asked) (spent : List ℕ) (bytes : List ℕ) (y : Tally) : Type 0 where
+  pub valid : Valid c m
+  pub reached : Reachable (womm c) (shown c m)
+  pub forwards : ahead ≡ forward c
+  pub few : n ≤ 96
+  pub asks : Askable asked
+  pub long : length spent ≡ 50
+  pub rested : Rested c (shown c m) (spentBy spent)
+  pub room : y .full ≡ false
+  pub held : Held bytes (y .count)
