@@ -31,7 +31,7 @@ def instruction(block, processor, number, op, d=0, a=0, b=0, constant=0):
 def shape_h():
     """Processor 0 writes 1 to x, then 1 to y; processor 1 reads y into register 2, then x into register 3."""
     block = bytearray(512)
-    block[0], block[1], block[2] = 2, 2, 8
+    block[0], block[1] = 2, 2
     for processor in range(2):
         block[4 + processor] = 2
         block[8 + processor] = 0b11
@@ -54,7 +54,7 @@ def changed(*stores):
 def every_kind():
     """All ten ops, the largest sizes and the highest legal values."""
     block = bytearray(512)
-    block[0], block[1], block[2] = 4, 8, 96
+    block[0], block[1] = 4, 8
     for processor in range(4):
         block[8 + processor] = 255
         for register in range(8):
@@ -104,6 +104,9 @@ BLOCKS = [
     ("h", H, 0, 0),
     ("every-kind", every_kind(), 0, 0),
     ("goto", second(), 0, 0),
+    ("bound-1", changed((2, 1)), 0, 0),
+    ("bound-8", changed((2, 8)), 0, 0),
+    ("bound-96", changed((2, 96)), 0, 0),
     ("empty", b"", 1, 0),
     ("short", H[:511], 1, 0),
     ("long", H + b"\0", 1, 0),
@@ -162,8 +165,12 @@ BLOCKS = [
 ]
 
 
-def line(name, code, position):
-    return f"{name} code {code}" + (f" at {position}" if code else ", written again the same")
+def line(name, block, code, position):
+    if code:
+        return f"{name} code {code} at {position}"
+    if block[2]:
+        return f"{name} code 0, usual bound dropped, written again another"
+    return f"{name} code 0, written again the same"
 
 
 def main():
@@ -175,7 +182,7 @@ def main():
     for name, block, _, _ in BLOCKS:
         (data / name).write_bytes(bytes(block))
     (crate / "args").write_text("".join(name + "\n" for name, _, _, _ in BLOCKS))
-    (crate / "stdout").write_text("".join(line(name, code, position) + "\n" for name, _, code, position in BLOCKS))
+    (crate / "stdout").write_text("".join(line(*entry) + "\n" for entry in BLOCKS))
 
 
 main()

@@ -4,6 +4,7 @@ use crate::{faults, Case, Instr, Processor, Reason, Refusal};
 
 pub const LENGTH: usize = 512;
 
+const BOUND: usize = 2;
 pub(crate) const COUNTS: usize = 4;
 pub(crate) const MASKS: usize = 8;
 pub(crate) const PRESETS: usize = 12;
@@ -34,7 +35,7 @@ pub fn seal(block: &mut [u8; LENGTH]) {
 
 pub(crate) fn write(case: &Case) -> [u8; LENGTH] {
     let mut block = [0; LENGTH];
-    block[..3].copy_from_slice(&[case.processors.len() as u8, case.locations, case.usual_bound]);
+    block[..2].copy_from_slice(&[case.processors.len() as u8, case.locations]);
     for (p, processor) in case.processors.iter().enumerate() {
         write_processor(&mut block, p, processor);
     }
@@ -58,7 +59,7 @@ fn write_processor(block: &mut [u8; LENGTH], p: usize, processor: &Processor) {
     }
 }
 
-/// The case of a block, or the first of codes 1 to 7 and 19 that applies.
+/// The case of a block, or the first of codes 1 to 7 and 19 that applies. A usual bound is dropped.
 pub fn read(block: &[u8]) -> Result<Case, Refusal> {
     let block: &[u8; LENGTH] = block.try_into().map_err(|_| Reason::BlockLength)?;
     if word(block, CHECK) != check(block) {
@@ -67,7 +68,7 @@ pub fn read(block: &[u8]) -> Result<Case, Refusal> {
     faults::judge(block)?;
     let memory = std::array::from_fn(|location| word(block, MEMORY + 2 * location));
     let processors = (0..block[0].into()).map(|p| read_processor(block, p)).collect();
-    Ok(Case { processors, locations: block[1], usual_bound: block[2], memory })
+    Ok(Case { processors, locations: block[1], memory })
 }
 
 fn read_processor(block: &[u8; LENGTH], p: usize) -> Processor {
@@ -78,9 +79,21 @@ fn read_processor(block: &[u8; LENGTH], p: usize) -> Processor {
     }
 }
 
-/// Puts the check behind a buffer that holds a case; refused, the buffer is all zeros.
+/// Whether an accepted block held a usual bound.
+pub fn held_bound(block: &[u8]) -> bool {
+    block[BOUND] != 0
+}
+
+/// A block with a usual bound, as they were written before request 12.
+pub fn with_bound(mut block: [u8; LENGTH], bound: u8) -> [u8; LENGTH] {
+    block[BOUND] = bound;
+    seal(&mut block);
+    block
+}
+
+/// Puts no usual bound and the check into a buffer that holds a case; refused, the buffer is all zeros.
 pub fn close(buffer: &mut [u8]) -> Result<(), Refusal> {
-    let closed = closable(buffer).map(seal);
+    let closed = closable(buffer).map(|block| *block = with_bound(*block, 0));
     if closed.is_err() {
         buffer.fill(0);
     }
@@ -120,7 +133,6 @@ mod tests {
             .memory(2, 0xBEEF)
             .program(0, &[ops::write(0, 1), goto(2)])
             .program(1, &[ops::read(2, 7), branch(2, 0)])
-            .usual_bound(8)
             .build()
             .unwrap()
     }
@@ -128,7 +140,7 @@ mod tests {
     #[test]
     fn bytes_stand_where_document_01_says() {
         let block = sample().block();
-        assert_eq!(block[..12], [2, 3, 8, 0, 2, 2, 0, 0, 0b11, 0b1000_0000, 0, 0]);
+        assert_eq!(block[..12], [2, 3, 0, 0, 2, 2, 0, 0, 0b11, 0b1000_0000, 0, 0]);
         assert_eq!(block[14..16], [2, 1]);
         assert_eq!(block[42..44], [9, 0]);
         assert_eq!(block[80..82], [0xEF, 0xBE]);
@@ -188,9 +200,22 @@ mod tests {
     }
 
     #[test]
+    fn an_old_block_holds_the_same_case() {
+        let sound = sample().block();
+        for bound in 1..=96 {
+            let old = with_bound(sound, bound);
+            assert!(held_bound(&old) && read(&old) == Ok(sample()));
+            let differ: Vec<usize> = (0..LENGTH).filter(|&at| old[at] != sound[at]).collect();
+            assert!(differ[0] == 2 && differ[1..].iter().all(|&at| at >= 510), "{differ:?}");
+        }
+        assert!(!held_bound(&sound));
+        assert_eq!(read(&with_bound(sound, 97)), Err(Refusal { reason: Reason::Sizes, position: 2 }));
+    }
+
+    #[test]
     fn a_buffer_is_closed_or_cleared() {
         let sound = sample().block();
-        let mut open = sound;
+        let mut open = with_bound(sound, 96);
         open[510..].fill(7);
         assert_eq!((close(&mut open), open), (Ok(()), sound));
         open[95] = 8;

@@ -3,9 +3,18 @@
 
 use crate::{Clause, Refusal};
 
-/// The answer of reading or writing a block.
+/// The answer of reading a block.
 #[derive(Clone, Copy, Debug, PartialEq, Eq)]
-pub struct Coded {
+pub struct Read {
+    pub code: u32,
+    pub position: u32,
+    /// Whether the block was accepted and held a usual bound, which is dropped.
+    pub usual: bool,
+}
+
+/// The answer of writing a block.
+#[derive(Clone, Copy, Debug, PartialEq, Eq)]
+pub struct Written {
     pub code: u32,
     pub position: u32,
 }
@@ -40,12 +49,22 @@ pub struct Asked {
     pub position: u32,
 }
 
-impl Coded {
-    /// The answer to a block that was accepted or refused.
-    pub fn of(judged: Result<(), Refusal>) -> Coded {
+impl Read {
+    /// The answer to a block that was accepted, with or without a usual bound, or refused.
+    pub fn of(judged: Result<bool, Refusal>) -> Read {
         match judged {
-            Ok(()) => Coded { code: 0, position: 0 },
-            Err(refusal) => Coded { code: refusal.code(), position: refusal.position },
+            Ok(usual) => Read { code: 0, position: 0, usual },
+            Err(refusal) => Read { code: refusal.code(), position: refusal.position, usual: false },
+        }
+    }
+}
+
+impl Written {
+    /// The answer to a buffer that was closed or refused.
+    pub fn of(judged: Result<(), Refusal>) -> Written {
+        match judged {
+            Ok(()) => Written { code: 0, position: 0 },
+            Err(refusal) => Written { code: refusal.code(), position: refusal.position },
         }
     }
 }
@@ -79,10 +98,10 @@ impl Asked {
     }
 }
 
-/// Judges a block, and puts the check behind a buffer that holds one but for it.
+/// Judges a block, and makes one of a buffer that holds one but for its check.
 pub trait Codec {
-    fn read(&self, block: &[u8]) -> Coded;
-    fn write(&self, block: &mut [u8]) -> Coded;
+    fn read(&self, block: &[u8]) -> Read;
+    fn write(&self, block: &mut [u8]) -> Written;
 }
 
 /// Lists outcomes.

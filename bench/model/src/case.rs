@@ -1,5 +1,5 @@
 use crate::block::{self, COUNTS, MASKS, MEMORY};
-use crate::{Instr, Reason, Refusal, INSTRUCTIONS, LOCATIONS, PROCESSORS, REGISTERS, STEPS};
+use crate::{Instr, Reason, Refusal, INSTRUCTIONS, LOCATIONS, PROCESSORS, REGISTERS};
 
 /// One processor of a case: what its registers start with, and its instructions.
 #[derive(Clone, Debug, Default, PartialEq, Eq)]
@@ -13,7 +13,6 @@ pub struct Processor {
 pub struct Case {
     pub(crate) processors: Vec<Processor>,
     pub(crate) locations: u8,
-    pub(crate) usual_bound: u8,
     pub(crate) memory: [u16; LOCATIONS],
 }
 
@@ -21,12 +20,7 @@ impl Case {
     /// Begins a case with as many processors and locations, nothing preset, memory at 0.
     pub fn builder(processors: u8, locations: u8) -> CaseBuilder {
         CaseBuilder {
-            case: Case {
-                processors: vec![Processor::default(); processors.into()],
-                locations,
-                usual_bound: 0,
-                memory: [0; LOCATIONS],
-            },
+            case: Case { processors: vec![Processor::default(); processors.into()], locations, memory: [0; LOCATIONS] },
             refused: None,
         }
     }
@@ -37,10 +31,6 @@ impl Case {
 
     pub fn locations(&self) -> u8 {
         self.locations
-    }
-
-    pub fn usual_bound(&self) -> u8 {
-        self.usual_bound
     }
 
     /// The word that a location starts with.
@@ -90,17 +80,10 @@ impl CaseBuilder {
         self
     }
 
-    /// The bound that `outcomes` takes when given 255.
-    pub fn usual_bound(mut self, bound: u8) -> Self {
-        self.case.usual_bound = bound;
-        self
-    }
-
     pub fn build(mut self) -> Result<Case, Refusal> {
         let processors = (1..=PROCESSORS).contains(&self.case.processors.len());
         let locations = (1..=LOCATIONS).contains(&self.case.locations.into());
-        let bound = usize::from(self.case.usual_bound) <= STEPS;
-        if let Some(position) = [processors, locations, bound].iter().position(|sound| !sound) {
+        if let Some(position) = [processors, locations].iter().position(|sound| !sound) {
             self.refuse(Reason::Sizes, position);
         }
         if let Some(p) = self.case.processors.iter().position(|held| held.program.len() > INSTRUCTIONS) {

@@ -13,7 +13,7 @@ mod reason;
 mod refusal;
 mod schedule;
 
-pub use calls::{Asked, Asker, Codec, Coded, Listed, Lister, Replayed, Replayer};
+pub use calls::{Asked, Asker, Codec, Listed, Lister, Read, Replayed, Replayer, Written};
 pub use case::{Case, CaseBuilder, Processor};
 pub use clause::{clause, Clause, Named, CLAUSES};
 pub use instr::{ops, Instr};

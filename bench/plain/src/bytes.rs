@@ -13,14 +13,17 @@ pub fn case(block: &[u8]) -> Result<Case, Refusal> {
     Ok(block::read(block).expect("a block without a bad byte"))
 }
 
-/// Puts the check behind a buffer that holds a case.
+/// Makes a block of a buffer that holds a case: byte 2 is 0 whatever was there.
 pub fn close(buffer: &mut [u8]) -> Result<(), Refusal> {
-    let closed = sized(buffer).and_then(|bytes| sound(bytes).map(|()| block::check(bytes)));
-    match closed {
-        Ok(check) => buffer[510..].copy_from_slice(&check.to_le_bytes()),
-        Err(_) => buffer.fill(0),
+    let judged = sized(buffer).and_then(sound);
+    if judged.is_ok() {
+        buffer[2] = 0;
+        let check = block::check(buffer);
+        buffer[510..].copy_from_slice(&check.to_le_bytes());
+    } else {
+        buffer.fill(0);
     }
-    closed.map(|_| ())
+    judged
 }
 
 fn sized(block: &[u8]) -> Result<&[u8; LENGTH], Refusal> {

@@ -10,8 +10,8 @@ pub use machine::Machine;
 
 use std::collections::BTreeSet;
 
-use model::{put_schedule, Asked, Asker, Case, Clause, Codec, Coded, Listed, Lister, Outcome, Reason, Refusal};
-use model::{Replayed, Replayer, Step, CLAUSES, ENDING, RECORD, SCHEDULE, STEPS};
+use model::{put_schedule, Asked, Asker, Case, Clause, Codec, Listed, Lister, Outcome, Read, Reason};
+use model::{Refusal, Replayed, Replayer, Step, Written, CLAUSES, ENDING, RECORD, SCHEDULE, STEPS};
 
 /// All outcomes within a bound.
 #[derive(Clone, Debug, Default)]
@@ -48,12 +48,12 @@ fn explore(machine: &Machine, left: u8, listing: &mut Listing) {
 pub struct Plain;
 
 impl Codec for Plain {
-    fn read(&self, block: &[u8]) -> Coded {
-        Coded::of(bytes::case(block).map(|_| ()))
+    fn read(&self, block: &[u8]) -> Read {
+        Read::of(bytes::case(block).map(|_| block[2] > 0))
     }
 
-    fn write(&self, block: &mut [u8]) -> Coded {
-        Coded::of(bytes::close(block))
+    fn write(&self, block: &mut [u8]) -> Written {
+        Written::of(bytes::close(block))
     }
 }
 

@@ -142,7 +142,7 @@ fn section(rng: &mut Rng, from: u16) -> Vec<Instr> {
 
 /// Presets and memory. Register 4 is now and then no location's number.
 fn started(rng: &mut Rng, processors: usize, locations: u8) -> CaseBuilder {
-    let mut case = Case::builder(processors as u8, locations).usual_bound(rng.below(97) as u8);
+    let mut case = Case::builder(processors as u8, locations);
     for p in 0..processors {
         case = case.preset(p, 0, 0).preset(p, 1, 1.min(u16::from(locations) - 1));
         let last = u16::from(locations) + u16::from(rng.once_in(5));

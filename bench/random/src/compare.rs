@@ -1,7 +1,7 @@
 use std::env;
 use std::process::ExitCode;
 
-use model::{block, Asked, Asker, Codec, Coded, Listed, Lister, Replayed, Replayer, RECORD};
+use model::{block, Asked, Asker, Codec, Listed, Lister, Read, Replayed, Replayer, Written, RECORD};
 
 use crate::{AskInput, Inputs, ListInput, ReplayInput, Tally};
 
@@ -34,8 +34,8 @@ pub struct Plan {
 /// An input on which the two differ, in the answer or in a byte of the buffer.
 #[derive(Debug)]
 pub enum Mismatch {
-    Read { block: Vec<u8>, reference: Coded, other: Coded },
-    Write { block: Vec<u8>, reference: Coded, other: Coded },
+    Read { block: Vec<u8>, reference: Read, other: Read },
+    Write { block: Vec<u8>, reference: Written, other: Written },
     List { input: ListInput, reference: Listed, other: Listed },
     Ask { input: AskInput, reference: Asked, other: Asked },
     Replay { input: ReplayInput, reference: Replayed, other: Replayed },

@@ -69,7 +69,8 @@ impl Inputs {
 
     pub fn to_list(&mut self, held: &Listable) -> ListInput {
         let room = self.records_room(held.outcomes.len());
-        self.spoilt_list(ListInput { block: held.case.block().to_vec(), bound: held.bound.into(), room })
+        let block = self.block(&held.case).to_vec();
+        self.spoilt_list(ListInput { block, bound: held.bound.into(), room })
     }
 
     /// A listing into a buffer of a given length.
@@ -83,7 +84,7 @@ impl Inputs {
         let slips = self.rng.once_in(2);
         let most = if self.rng.once_in(16) { CLAUSES + 2 } else { 4 };
         let clauses = (0..self.rng.below(most)).map(|_| self.clause(&held.case, &wanted, slips)).collect();
-        let input = ListInput { block: held.case.block().to_vec(), bound: held.bound.into(), room: 0 };
+        let input = ListInput { block: self.block(&held.case).to_vec(), bound: held.bound.into(), room: 0 };
         let ListInput { block, bound, .. } = self.spoilt_list(input);
         let room = if self.rng.once_in(24) { self.rng.pick(&[0, 383, 385, 400]) } else { SCHEDULE };
         AskInput { block, bound, clauses, room }
@@ -104,6 +105,12 @@ impl Inputs {
             _ => (),
         }
         clause
+    }
+
+    /// A case's block, once in three times an old one with a usual bound.
+    fn block(&mut self, case: &Case) -> [u8; block::LENGTH] {
+        let bound = if self.rng.once_in(3) { 1 + self.rng.below(STEPS) } else { 0 };
+        block::with_bound(case.block(), bound as u8)
     }
 
     /// Mostly the steps of one pass over every program, now and then a little less or more; for a case with
@@ -150,7 +157,8 @@ impl Inputs {
                 steps.push(self.any_step(&case, &run));
             }
         }
-        self.spoilt_replay(ReplayInput { block: case.block().to_vec(), schedule: steps.concat(), room: ENDING })
+        let block = self.block(&case).to_vec();
+        self.spoilt_replay(ReplayInput { block, schedule: steps.concat(), room: ENDING })
     }
 
     /// A replay into a buffer of a given length.
@@ -235,7 +243,8 @@ impl Inputs {
 
     /// A block of a random case with a byte changed at each of some positions, and the check put right mostly.
     pub fn to_judge(&mut self, positions: &[usize]) -> Vec<u8> {
-        let mut bytes = cases::to_replay(&mut self.rng).block();
+        let case = cases::to_replay(&mut self.rng);
+        let mut bytes = self.block(&case);
         for &at in positions {
             bytes[at] = self.other_byte(bytes[at]);
         }
@@ -251,7 +260,8 @@ impl Inputs {
 
     /// A block with a preset or two less, or another register in a field: mostly one that reads what nothing sets.
     pub fn to_judge_unset(&mut self) -> Vec<u8> {
-        let mut bytes = cases::to_replay(&mut self.rng).block();
+        let case = cases::to_replay(&mut self.rng);
+        let mut bytes = self.block(&case);
         for _ in 0..1 + self.rng.below(3) {
             let p = self.rng.below(bytes[0].into());
             if self.rng.once_in(2) {

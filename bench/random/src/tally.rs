@@ -1,7 +1,7 @@
 use std::collections::{BTreeMap, BTreeSet};
 use std::fmt;
 
-use model::{Asked, Coded, Listed, Reason, Replayed};
+use model::{Asked, Listed, Read, Reason, Replayed};
 
 use crate::compare::{rooms, LENGTHS, RECORDS};
 use crate::{ListInput, ReplayInput};
@@ -32,6 +32,8 @@ pub struct Tally {
     results: BTreeSet<usize>,
     /// The positions of each code in blocks that were read, and how often the code was given.
     blocks: BTreeMap<u32, (BTreeSet<u32>, u32)>,
+    /// How many blocks were accepted without their usual bound.
+    usual: u32,
     /// The ops and fields at which code 19 stood.
     unset: BTreeSet<(u8, u32)>,
 }
@@ -61,13 +63,14 @@ impl Tally {
         self.results.insert(input.room);
     }
 
-    pub(crate) fn read(&mut self, block: &[u8], coded: Coded) {
-        let (positions, times) = self.blocks.entry(coded.code).or_default();
-        positions.insert(coded.position);
+    pub(crate) fn read(&mut self, block: &[u8], read: Read) {
+        let (positions, times) = self.blocks.entry(read.code).or_default();
+        positions.insert(read.position);
         *times += 1;
-        if coded.code == 19 {
-            let part = (coded.position - 92) % 6;
-            self.unset.insert((block[(coded.position - part) as usize], part));
+        self.usual += u32::from(read.usual);
+        if read.code == 19 {
+            let part = (read.position - 92) % 6;
+            self.unset.insert((block[(read.position - part) as usize], part));
         }
     }
 
@@ -94,10 +97,16 @@ impl Tally {
     }
 
     /// Each byte that can be bad for codes 3 and 4 was a position, and most of those that can be for 5 to 7; 19 stood at
-    /// every field that names a register to read.
+    /// every field that names a register to read; usual bounds were dropped.
     fn positions(&self) -> bool {
         let reached = |code: u32| self.blocks.get(&code).map_or(0, |(positions, _)| positions.len());
-        reached(3) == 4 && reached(4) == 4 && reached(5) >= 75 && reached(6) >= 270 && reached(7) >= 390 && self.unset.len() == 12
+        reached(3) == 4
+            && reached(4) == 4
+            && reached(5) >= 75
+            && reached(6) >= 270
+            && reached(7) >= 390
+            && self.unset.len() == 12
+            && self.usual > 0
     }
 
     /// Every length asked for.
@@ -121,7 +130,7 @@ impl fmt::Display for Tally {
         writeln!(f, "  by code{}", codes(&self.replays))?;
         let blocks = self.blocks.iter().map(|(code, (positions, n))| format!(" {code}:{n}/{}", positions.len()));
         writeln!(f, "blocks by code, and the positions it stood at{}", blocks.collect::<String>())?;
-        writeln!(f, "  19 at {} of 12 kinds of field", self.unset.len())?;
+        writeln!(f, "  19 at {} of 12 kinds of field; {} with a usual bound", self.unset.len(), self.usual)?;
         let all = if self.lengths() { "yes" } else { "no" };
         write!(f, "schedules and buffers of every length to {LENGTHS}, records around every multiple of 96 to {RECORDS}: {all}")
     }

@@ -1,11 +1,11 @@
 //! Shapes of one schedule.
 
 use model::ops::*;
-use model::{clause, schedule, CaseBuilder, Clause, Instr, Outcome, Step};
+use model::{block, clause, schedule, CaseBuilder, Clause, Instr, Outcome, Step};
 use states::Answer;
 
 use crate::lists::{figure_2, figure_8};
-use crate::{damaged, usual, Run};
+use crate::{damaged, usual, Damaged, Run};
 
 fn issue(processor: u8) -> Step {
     Step::Issue { processor }
@@ -52,8 +52,8 @@ fn alone(program: &[Instr]) -> CaseBuilder {
 
 /// Every run, those of document 01 and source 000 first.
 pub fn runs() -> Vec<Run> {
-    [scope(), bad_steps(), refused_issues(), refused_commits(), behind_the_lock(), hidden(), second_round(), refused_inputs()]
-        .concat()
+    let steps = [scope(), bad_steps(), refused_issues(), refused_commits(), behind_the_lock(), hidden(), second_round()];
+    [steps.concat(), old_blocks(), refused_inputs()].concat()
 }
 
 fn scope() -> Vec<Run> {
@@ -164,14 +164,26 @@ fn second_round() -> Vec<Run> {
     ]
 }
 
+/// Request 12: a block with a usual bound is replayed as one without.
+fn old_blocks() -> Vec<Run> {
+    let old = |run: Run, name, bound| {
+        let block = run.block[..].try_into().expect("a block");
+        Run { name, block: block::with_bound(block, bound).to_vec(), ..run }
+    };
+    let steps = [issue(0), issue(0), commit(0, 1)];
+    let (whole, held) = (alone(&[goto(1), goto(2)]), alone(&[acquire(0), goto(2)]));
+    vec![old(run("", whole, &steps, 0), "old-bound-1", 1), old(run("", held, &steps, 28).at(1), "old-bound-96", 96)]
+}
+
 /// Refusals before the first step: a block's whatever the schedule is, then the schedule's.
 fn refused_inputs() -> Vec<Run> {
     let sound = alone(&[goto(1)]).build().expect("a sound case").block();
     let given = |name, schedule| Run { name, block: sound.to_vec(), schedule, code: 8, steps: 0, place: None, position: 0 };
-    let refused = damaged().into_iter().map(|block| {
+    let refused = damaged().into_iter().map(|damaged| {
+        let Damaged { name, block, code, position } = damaged;
         // Bytes that follow a short block would be taken as its own.
-        let schedule = if block.code == 1 { vec![] } else { vec![9] };
-        Run { name: block.name, block: block.block, schedule, code: block.code, steps: 0, place: None, position: block.position }
+        let schedule = if code == 1 { vec![] } else { vec![9] };
+        Run { name, block, schedule, code, steps: 0, place: None, position }
     });
     refused.chain([given("schedule-piece", vec![0, 0, 0, 0, 1]), given("schedule-long", vec![0; 388])]).collect()
 }

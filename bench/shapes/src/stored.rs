@@ -7,9 +7,8 @@ use states::States;
 use crate::lists::message;
 use crate::{damaged, lists, runs, usual};
 
-/// The records that the program `outcomes` has room for, and the bound that means the block's usual one.
+/// The records that the program `outcomes` has room for.
 const ROOM: usize = 682;
-const USUAL: u8 = 255;
 
 /// Every stored file: its path and its bytes.
 pub fn stored() -> Vec<(String, Vec<u8>)> {
@@ -27,15 +26,20 @@ pub fn stored() -> Vec<(String, Vec<u8>)> {
 
 fn list_inputs() -> Vec<(&'static str, Vec<u8>)> {
     let with = |block: &[u8], bound: u8| [block, &[bound]].concat();
-    let h = message().usual_bound(8).build().expect("a sound case").block();
+    let h = message().build().expect("a sound case").block();
+    let old = block::with_bound(h, 8);
     let readers = usual(1, &[&[write(0, 1), write(0, 4)], &[2, 3, 4, 5, 6, 7].map(|d| read(d, 0))]);
     let readers = readers.preset(0, 4, 2).build().expect("a sound case").block();
     let mut inputs: Vec<_> = lists().iter().map(|shape| (shape.name, with(&shape.case.block(), shape.bound))).collect();
-    inputs.extend(damaged().iter().map(|damaged| (damaged.name, with(&damaged.block, USUAL))));
+    inputs.extend(damaged().iter().map(|damaged| (damaged.name, with(&damaged.block, 255))));
     inputs.extend([
-        ("H-usual", with(&h, USUAL)),
+        ("old-bound-1-given-8", with(&block::with_bound(h, 1), 8)),
+        ("old-bound-8-given-7", with(&old, 7)),
+        ("old-bound-96-given-8", with(&block::with_bound(h, 96), 8)),
+        ("old-bound-8-given-255", with(&old, 255)),
         ("bound-97", with(&h, 97)),
         ("bound-254", with(&h, 254)),
+        ("bound-255", with(&h, 255)),
         ("length-0", vec![]),
         ("length-512", h.to_vec()),
         ("length-514", with(&with(&h, 8), 0)),
@@ -70,7 +74,6 @@ pub fn outcomes_prints(input: &[u8]) -> String {
     let Some((&bound, block)) = input.split_last().filter(|(_, block)| block.len() == block::LENGTH) else {
         return "refused 1 at 0\n".to_string();
     };
-    let bound = if bound == USUAL { block[2] } else { bound };
     let mut records = vec![0; ROOM * RECORD];
     let listed = States.outcomes(block, bound.into(), &mut records);
     if listed.code != 0 {

@@ -3,7 +3,7 @@
 use std::fs;
 use std::path::Path;
 
-use model::{clause, Asked, Asker, Codec, Coded, Lister, Replayed, Replayer, RECORD, SCHEDULE};
+use model::{clause, Asked, Asker, Codec, Lister, Read, Replayed, Replayer, RECORD, SCHEDULE};
 use plain::Plain;
 use shapes::{damaged, lists, runs, wishes, Shape};
 use states::States;
@@ -184,7 +184,7 @@ fn stored_inputs_are_up_to_date() {
 #[test]
 fn damaged_blocks_name_their_byte() {
     for damaged in damaged() {
-        let expected = Coded { code: damaged.code, position: damaged.position };
+        let expected = Read { code: damaged.code, position: damaged.position, usual: false };
         assert_eq!(States.read(&damaged.block), expected, "{}", damaged.name);
         assert_eq!(Plain.read(&damaged.block), expected, "{}", damaged.name);
         let listed = States.outcomes(&damaged.block, 97, &mut []);

@@ -14,19 +14,19 @@ pub use ask::{ask, Answer};
 pub use replay::Run;
 pub use search::{list, list_within, Listing};
 
-use model::{block, put_schedule, Asked, Asker, Case, Clause, Codec, Coded, Listed, Lister, Reason, Refusal};
-use model::{Replayed, Replayer, ENDING, RECORD, SCHEDULE, STEPS};
+use model::{block, put_schedule, Asked, Asker, Case, Clause, Codec, Listed, Lister, Read, Reason, Refusal};
+use model::{Replayed, Replayer, Written, ENDING, RECORD, SCHEDULE, STEPS};
 
 /// The enumerator behind the bytes that the library takes.
 pub struct States;
 
 impl Codec for States {
-    fn read(&self, block: &[u8]) -> Coded {
-        Coded::of(block::read(block).map(|_| ()))
+    fn read(&self, block: &[u8]) -> Read {
+        Read::of(block::read(block).map(|_| block::held_bound(block)))
     }
 
-    fn write(&self, block: &mut [u8]) -> Coded {
-        Coded::of(block::close(block))
+    fn write(&self, block: &mut [u8]) -> Written {
+        Written::of(block::close(block))
     }
 }
 

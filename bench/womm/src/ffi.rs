@@ -4,7 +4,7 @@
 use model::Clause;
 
 extern "C" {
-    fn womm_read(block: *const u8, block_length: usize, position: *mut usize) -> u32;
+    fn womm_read(block: *const u8, block_length: usize, position: *mut usize, usual: *mut usize) -> u32;
 
     fn womm_write(block: *mut u8, block_length: usize, position: *mut usize) -> u32;
 
@@ -67,10 +67,10 @@ pub struct ListNumbers<'a> {
 }
 
 /// Reads a block; gives the code.
-pub fn read(block: &[u8], position: &mut usize) -> u32 {
-    // SAFETY: each pointer comes from a live slice or number and goes with its own length; `position` is lent to
+pub fn read(block: &[u8], position: &mut usize, usual: &mut usize) -> u32 {
+    // SAFETY: each pointer comes from a live slice or number and goes with its own length; the numbers are lent to
     // this call alone.
-    unsafe { womm_read(block.as_ptr(), block.len(), position) }
+    unsafe { womm_read(block.as_ptr(), block.len(), position, usual) }
 }
 
 /// Makes a block of a buffer that holds one but for its check; gives the code.

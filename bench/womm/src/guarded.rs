@@ -1,6 +1,6 @@
 use std::hint::black_box;
 
-use model::{clause, Asked, Asker, Clause, Codec, Coded, Listed, Lister, Replayed, Replayer};
+use model::{clause, Asked, Asker, Clause, Codec, Listed, Lister, Read, Replayed, Replayer, Written};
 
 use crate::ffi::{self, ListNumbers, ReplayNumbers};
 use crate::{asked, mark, place_given, short};
@@ -61,18 +61,18 @@ impl FencedNumber {
 }
 
 impl Codec for Guarded {
-    fn read(&self, block: &[u8]) -> Coded {
-        let (held, mut position) = (Fenced::new(block), FencedNumber::new());
-        let code = ffi::read(held.inner(), position.lent());
+    fn read(&self, block: &[u8]) -> Read {
+        let (held, mut position, mut usual) = (Fenced::new(block), FencedNumber::new(), FencedNumber::new());
+        let code = ffi::read(held.inner(), position.lent(), usual.lent());
         assert_eq!(black_box(&held).opened("block"), block, "the block was written");
-        Coded { code, position: short(position.opened("position")) }
+        Read { code, position: short(position.opened("position")), usual: mark(usual.opened("mark of a usual bound")) }
     }
 
-    fn write(&self, block: &mut [u8]) -> Coded {
+    fn write(&self, block: &mut [u8]) -> Written {
         let (mut lent, mut position) = (Fenced::new(block), FencedNumber::new());
         let code = ffi::write(lent.inner_mut(), position.lent());
         block.copy_from_slice(black_box(&lent).opened("block"));
-        Coded { code, position: short(position.opened("position")) }
+        Written { code, position: short(position.opened("position")) }
     }
 }
 

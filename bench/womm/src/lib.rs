@@ -7,8 +7,8 @@ mod guarded;
 mod stop;
 
 pub use guarded::Guarded;
-pub use model::{clause, ops, Asked, Asker, Case, CaseBuilder, Clause, Codec, Coded, Ending, Instr, Listed, Lister};
-pub use model::{Outcome, Reason, Refusal, Replayed, Replayer, Step};
+pub use model::{clause, ops, Asked, Asker, Case, CaseBuilder, Clause, Codec, Ending, Instr, Listed, Lister};
+pub use model::{Outcome, Read, Reason, Refusal, Replayed, Replayer, Step, Written};
 pub use stop::{Place, Stop};
 
 use ffi::{AskNumbers, ListNumbers, ReplayNumbers};
@@ -18,16 +18,16 @@ use model::{schedule, steps, ENDING, RECORD, SCHEDULE};
 pub struct Library;
 
 impl Codec for Library {
-    fn read(&self, block: &[u8]) -> Coded {
-        let mut position = 0;
-        let code = ffi::read(block, &mut position);
-        Coded { code, position: short(position) }
+    fn read(&self, block: &[u8]) -> Read {
+        let [mut position, mut usual] = [0; 2];
+        let code = ffi::read(block, &mut position, &mut usual);
+        Read { code, position: short(position), usual: mark(usual) }
     }
 
-    fn write(&self, block: &mut [u8]) -> Coded {
+    fn write(&self, block: &mut [u8]) -> Written {
         let mut position = 0;
         let code = ffi::write(block, &mut position);
-        Coded { code, position: short(position) }
+        Written { code, position: short(position) }
     }
 }
 
@@ -60,16 +60,17 @@ fn asked(given: AskNumbers) -> Asked {
     Asked { code, yes: mark(yes), length: short(length), cut: mark(cut), position: short(position) }
 }
 
-/// Whether a block holds a case.
-pub fn read(block: &[u8]) -> Result<(), Refusal> {
-    let coded = Library.read(block);
-    accepted(coded.code, coded.position)
+/// Whether a block holds a case; if so, whether it held a usual bound too, which is dropped.
+pub fn read(block: &[u8]) -> Result<bool, Refusal> {
+    let read = Library.read(block);
+    accepted(read.code, read.position)?;
+    Ok(read.usual)
 }
 
-/// Puts the check behind bytes 0 to 509 of a block. Refused, the block is all zeros.
+/// Puts no usual bound and the check into a block that has its other bytes. Refused, the block is all zeros.
 pub fn write(block: &mut [u8]) -> Result<(), Refusal> {
-    let coded = Library.write(block);
-    accepted(coded.code, coded.position)
+    let written = Library.write(block);
+    accepted(written.code, written.position)
 }
 
 /// All outcomes within a bound, in byte order.

@@ -1,6 +1,6 @@
 //! The library against the shapes: what is expected of them, and what the enumerator of states says.
 
-use model::{Codec, Coded, Listed, Lister, Replayer, RECORD};
+use model::{Codec, Listed, Lister, Read, Replayer, RECORD};
 use shapes::{damaged, lists, runs, Shape};
 use states::States;
 use womm::{Guarded, Outcome};
@@ -127,7 +127,7 @@ fn runs_end_as_expected() {
 fn damaged_blocks_name_their_byte() {
     for damaged in damaged() {
         let (code, position) = (damaged.code, damaged.position);
-        assert_eq!(Guarded.read(&damaged.block), Coded { code, position }, "{}", damaged.name);
+        assert_eq!(Guarded.read(&damaged.block), Read { code, position, usual: false }, "{}", damaged.name);
         let mut records = [7; 200];
         let expected = Listed { code, count: 0, cut: false, position };
         assert_eq!(Guarded.outcomes(&damaged.block, 97, &mut records), expected, "{}", damaged.name);

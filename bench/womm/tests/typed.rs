@@ -55,11 +55,16 @@ fn a_typed_question() {
 #[test]
 fn a_block_read_and_written() {
     let block = shapes::message().build().unwrap().block();
-    assert_eq!(womm::read(&block), Ok(()));
+    assert_eq!(womm::read(&block), Ok(false));
     let mut open = block;
     open[510..].fill(0xC7);
     assert_eq!(womm::read(&open), Err(Reason::Check.into()));
     assert_eq!((womm::write(&mut open), open), (Ok(()), block));
+    for bound in 1..=96 {
+        let mut old = model::block::with_bound(block, bound);
+        assert_eq!(womm::read(&old), Ok(true));
+        assert_eq!((womm::write(&mut old), old), (Ok(()), block));
+    }
     let mut bad = block;
     bad[381] = 1;
     assert_eq!((womm::write(&mut bad), bad), (Err(Refusal { reason: Reason::Unused, position: 381 }), [0; 512]));

@@ -29,6 +29,9 @@ fn report(name: &[u8], block: &[u8]) {
     print(b" code ");
     io::print_decimal(STDOUT_FILENO, code as u64);
     if code == 0 {
+        if read.usual {
+            print(b", usual bound dropped");
+        }
         let case = read.case;
         print_kept(kept(case, block));
     } else {

@@ -1,23 +1,24 @@
 -- The case that a block holds, as the code reads it. Assumes nothing.
 use mathlib.Core.Path.{_≡_, refl, ap, sym, _∙_}
+use mathlib.Core.Bool.{Bool, false, _&&_}
 use mathlib.Core.List.{List}
 use Prim.Native.Nat.{ℕ, zero, suc, _+_, _*_, _<_, _≤_}
 use native.Mathlib.Nat.{mul-le-mul}
 use native.Mathlib.Numerals.{add-one}
 use native.Mathlib.Omega.{arith}
-use lib.Dec.{lit<}
+use lib.Dec.{eqb, lit<}
 use lib.ListN.{length}
 use borrow.Author.Tests.{eq-eqb, ne-eqb}
 use Rattle.words.specs.Small.{each}
 use Rattle.words.specs.Refusals.{firstOf}
-use Rattle.words.proofs.First.{hit, miss, first, not-yes, not-no}
+use Rattle.words.proofs.First.{hit, miss, first, and-no-left, not-yes, not-no}
 use Rattle.cases.specs.declared.Fault.{Fault}
 use Rattle.cases.specs.declared.Case.{Case}
 use Rattle.cases.specs.declared.Instr.{Instr}
 use Rattle.cases.specs.declared.Slot.{Slot}
 use Rattle.cases.specs.declared.Instr.the-variants.{Empty}
 use Rattle.cases.specs.Instruction.{instrOf}
-use Rattle.cases.specs.Block.{byte, word, weighted, check, faults, refusals, positionOf, faultOf, slotAt, caseOf, nothing, caseWith, readOf}
+use Rattle.cases.specs.Block.{byte, word, marked, weighted, check, faults, refusals, positionOf, faultOf, slotAt, caseOf, nothing, caseWith, readOf}
 use Rattle.cases.proofs.Lowest.{fault-none}
 
 -- check: one byte more
@@ -52,20 +53,21 @@ module _ (s : List ℕ) (f : Fault) (h : f ≡ faultOf s (firstOf (refusals s)))
   code-is : f .code ≡ firstOf (refusals s)
   code-is = ap (λ (f : Fault). f .code) h
 
-  pub read-refused : (f .code ≡ 0 → ⊥) → c ≡ nothing → record { code = f .code; position = f .position; case = c } ≡ readOf s
+  pub read-refused : (f .code ≡ 0 → ⊥) → c ≡ nothing → record { code = f .code; position = f .position; usual = false; case = c } ≡ readOf s
   unfolding readOf
   read-refused k e =
       let position = ap (λ (f : Fault). f .position) h in
       let case = e ∙ refused (firstOf (refusals s)) (λ z. k (code-is ∙ z)) in
-      λ j. record { code = code-is j; position = position j; case = case j }
+      let usual = sym (and-no-left (eqb (firstOf (refusals s)) 0) (marked s 2) (ne-eqb (firstOf (refusals s)) 0 (λ z. k (code-is ∙ z)))) in
+      λ j. record { code = code-is j; position = position j; usual = usual j; case = case j }
     where
       refused : (n : ℕ) → (n ≡ 0 → ⊥) → nothing ≡ caseWith n (caseOf s)
       refused zero k = absurd (k refl)
       refused (suc n) k = refl
 
-  pub read-accepted : f .code ≡ 0 → c ≡ caseOf s → record { code = 0; position = 0; case = c } ≡ readOf s
+  pub read-accepted : (usual : Bool) → f .code ≡ 0 → usual ≡ marked s 2 → c ≡ caseOf s → record { code = 0; position = 0; usual = usual; case = c } ≡ readOf s
   unfolding readOf positionOf
-  read-accepted k e = (λ j. record { code = 0; position = 0; case = e j }) ∙ ap (λ (n : ℕ). record { code = n; position = positionOf s n; case = caseWith n (caseOf s) }) (sym k ∙ code-is)
+  read-accepted usual k u e = (λ j. record { code = 0; position = 0; usual = u j; case = e j }) ∙ ap (λ (n : ℕ). record { code = n; position = positionOf s n; usual = eqb n 0 && marked s 2; case = caseWith n (caseOf s) }) (sym k ∙ code-is)
 
 -- slot
 
@@ -74,9 +76,9 @@ slot-is s n op d a b k r h₀ h₁ h₂ h₃ h₄ e = (λ j. record { instr = e 
 
 -- case_of
 
-pub case-is : (s : List ℕ) (p m b : ℕ) (counts masks presets memory : List ℕ) (code : List Slot) → p ≡ byte s 0 → m ≡ byte s 1 → b ≡ byte s 2 → counts ≡ each 4 (λ i. byte s (4 + i)) → masks ≡ each 4 (λ i. byte s (8 + i)) → presets ≡ each 32 (λ i. word s (12 + 2 * i)) → memory ≡ each 8 (λ i. word s (76 + 2 * i)) → code ≡ each 48 (slotAt s) → record { procs = p; locs = m; bound = b; counts = counts; masks = masks; presets = presets; memory = memory; code = code } ≡ caseOf s
+pub case-is : (s : List ℕ) (p m : ℕ) (counts masks presets memory : List ℕ) (code : List Slot) → p ≡ byte s 0 → m ≡ byte s 1 → counts ≡ each 4 (λ i. byte s (4 + i)) → masks ≡ each 4 (λ i. byte s (8 + i)) → presets ≡ each 32 (λ i. word s (12 + 2 * i)) → memory ≡ each 8 (λ i. word s (76 + 2 * i)) → code ≡ each 48 (slotAt s) → record { procs = p; locs = m; counts = counts; masks = masks; presets = presets; memory = memory; code = code } ≡ caseOf s
 unfolding caseOf
-case-is s p m b counts masks presets memory code h₀ h₁ h₂ h₃ h₄ h₅ h₆ h₇ = λ j. record { procs = h₀ j; locs = h₁ j; bound = h₂ j; counts = h₃ j; masks = h₄ j; presets = h₅ j; memory = h₆ j; code = h₇ j }
+case-is s p m counts masks presets memory code h₀ h₁ h₂ h₃ h₄ h₅ h₆ = λ j. record { procs = h₀ j; locs = h₁ j; counts = h₂ j; masks = h₃ j; presets = h₄ j; memory = h₅ j; code = h₆ j }
 
 -- instr_of: an op that is none
 

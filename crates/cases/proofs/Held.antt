@@ -1,4 +1,4 @@
--- The bytes of the case that a sound block holds are the block's own. Assumes nothing.
+-- The bytes of the case that a sound block without usual bound holds are the block's own. Assumes nothing.
 use mathlib.Core.Path.{_≡_, refl, ap, sym, _∙_}
 use mathlib.Core.Logic.{⊎-elim}
 use mathlib.Core.Bool.{true, false, _&&_, _||_, not}
@@ -47,6 +47,11 @@ few-procs s ok =
     let bad = eqb (byte s 0) 0 || ltb 4 (byte s 0) in
     let h = or-none bad false (or-none (bad || false) false (or-none (bad || false || false) false (ok .third 0 (lit< tt)) .0) .0) .0 in
     ltb-false 4 (byte s 0) (or-none (eqb (byte s 0) 0) (ltb 4 (byte s 0)) h .1)
+
+-- byte 2 is not over 96
+pub few-second : (s : List ℕ) → Clean s → ltb 96 (byte s 2) ≡ false
+unfolding bad3
+few-second s ok = or-none (ltb 96 (byte s 2)) false (ok .third 2 (lit< tt)) .0
 
 -- the slots of a block that is sound
 module _ (s : List ℕ) (ok : Clean s) where
@@ -198,10 +203,10 @@ module _ (s : List ℕ) (long : length s ≡ 512) (bytes : Bytes s) (ok : Clean 
           let far = or-right (within 92 380 (380 + i) && not (used s (procAt (380 + i)) (numberAt (380 + i)))) (within 380 510 (380 + i)) (and-make (leb 380 (380 + i)) (ltb (380 + i) 510) (le-leb 380 (380 + i) (omega arith)) (lt-ltb (380 + i) 510 (omega arith))) in
           eqb-true (byte s (380 + i)) 0 (not-false _ (and-rest _ (marked s (380 + i)) (ok .seventh (380 + i) (omega arith)) far))
 
-  pub contents-back : contents (caseOf s) ≡ take 510 s
+  pub contents-back : byte s 2 ≡ 0 → contents (caseOf s) ≡ take 510 s
   unfolding contents caseOf
-  contents-back =
-      let e₁ : take 4 s ≡ byte s 0 ∷ byte s 1 ∷ byte s 2 ∷ 0 ∷ [] = take-each s 0 4 (omega arith) ∙ ap (λ (n : ℕ). byte s 0 ∷ byte s 1 ∷ byte s 2 ∷ n ∷ []) byte-3 in
+  contents-back none =
+      let e₁ : take 4 s ≡ byte s 0 ∷ byte s 1 ∷ 0 ∷ 0 ∷ [] = take-each s 0 4 (omega arith) ∙ (λ t. byte s 0 ∷ byte s 1 ∷ none t ∷ byte-3 t ∷ []) in
       let e₂ = take-each s 4 4 (omega arith) ∙ ap (λ (l : List ℕ). l ++ each 4 (λ p. byte s (4 + p))) e₁ in
       let e₃ = take-each s 8 4 (omega arith) ∙ ap (λ (l : List ℕ). l ++ each 4 (λ p. byte s (8 + p))) e₂ in
       let e₄ = take-parts two 2 (λ n. word s (12 + 2 * n)) s 12 32 (λ j b. word-part (12 + 2 * j) (omega arith)) ∙ ap (λ (l : List ℕ). l ++ concatMap two (each 32 (λ n. word s (12 + 2 * n)))) e₃ in

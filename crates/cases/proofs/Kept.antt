@@ -15,29 +15,32 @@ use Rattle.cases.proofs.Decoding.{case-is}
 use Rattle.cases.proofs.Puts.{two-wide, six-wide}
 use Rattle.cases.proofs.Slots.{two-back, instr-back}
 
--- what a case is read off lies in bytes 0 to 509
-module _ (s t : List ℕ) (same : (i : ℕ) → i < 510 → getD s i 0 ≡ getD t i 0) where
-  word-same : (i : ℕ) → i < 509 → word s i ≡ word t i
-  word-same i h = rw (same i (omega arith), same (i + 1) (omega arith))
+-- what a case is read off lies in bytes 0 to 509, byte 2 aside
+module _ (s t : List ℕ) (same : (i : ℕ) → i < 510 → (i ≡ 2 → ⊥) → getD s i 0 ≡ getD t i 0) where
+  past-2 : (i : ℕ) → 2 < i → i < 510 → getD s i 0 ≡ getD t i 0
+  past-2 i h b = same i b (λ e. omega arith)
+
+  word-same : (i : ℕ) → 2 < i → i < 509 → word s i ≡ word t i
+  word-same i h b = rw (past-2 i h (omega arith), past-2 (i + 1) (omega arith) (omega arith))
 
   slot-same : (n : ℕ) → n < 48 → slotAt s n ≡ slotAt t n
   slot-same n h =
       let at = 92 + 6 * n in
-      let b₀ = same at (omega arith) in
-      let b₁ = same (at + 1) (omega arith) in
-      let b₂ = same (at + 2) (omega arith) in
-      let b₃ = same (at + 3) (omega arith) in
-      let b₄ = word-same (at + 4) (omega arith) in
+      let b₀ = past-2 at (omega arith) (omega arith) in
+      let b₁ = past-2 (at + 1) (omega arith) (omega arith) in
+      let b₂ = past-2 (at + 2) (omega arith) (omega arith) in
+      let b₃ = past-2 (at + 3) (omega arith) (omega arith) in
+      let b₄ = word-same (at + 4) (omega arith) (omega arith) in
       λ j. record { instr = instrOf (b₀ j) (b₁ j) (b₂ j) (b₃ j) (b₄ j) }
 
   pub case-same : caseOf s ≡ caseOf t
   unfolding caseOf
   case-same =
-      case-is t (byte s 0) (byte s 1) (byte s 2) _ _ _ _ _ (same 0 (omega arith)) (same 1 (omega arith)) (same 2 (omega arith))
-      (each-same (λ p. byte s (4 + p)) (λ p. byte t (4 + p)) 4 (λ p h. same (4 + p) (omega arith)))
-      (each-same (λ p. byte s (8 + p)) (λ p. byte t (8 + p)) 4 (λ p h. same (8 + p) (omega arith)))
-      (each-same (λ n. word s (12 + 2 * n)) (λ n. word t (12 + 2 * n)) 32 (λ n h. word-same (12 + 2 * n) (omega arith)))
-      (each-same (λ n. word s (76 + 2 * n)) (λ n. word t (76 + 2 * n)) 8 (λ n h. word-same (76 + 2 * n) (omega arith)))
+      case-is t (byte s 0) (byte s 1) _ _ _ _ _ (same 0 (omega arith) (λ e. omega arith)) (same 1 (omega arith) (λ e. omega arith))
+      (each-same (λ p. byte s (4 + p)) (λ p. byte t (4 + p)) 4 (λ p h. past-2 (4 + p) (omega arith) (omega arith)))
+      (each-same (λ p. byte s (8 + p)) (λ p. byte t (8 + p)) 4 (λ p h. past-2 (8 + p) (omega arith) (omega arith)))
+      (each-same (λ n. word s (12 + 2 * n)) (λ n. word t (12 + 2 * n)) 32 (λ n h. word-same (12 + 2 * n) (omega arith) (omega arith)))
+      (each-same (λ n. word s (76 + 2 * n)) (λ n. word t (76 + 2 * n)) 8 (λ n h. word-same (76 + 2 * n) (omega arith) (omega arith)))
       (each-same (slotAt s) (slotAt t) 48 slot-same)
 
 -- the words, the instructions that stand at k behind p, in front of q
@@ -100,7 +103,7 @@ module _ (c : Case) (counts : length (c .counts) ≡ 4) (masks : length (c .mask
   l₄ = concatMap slotBytes (c .code)
 
   abbrev p₁ : List ℕ
-  p₁ = c .procs ∷ c .locs ∷ c .bound ∷ 0 ∷ []
+  p₁ = c .procs ∷ c .locs ∷ 0 ∷ 0 ∷ []
 
   abbrev p₂ : List ℕ
   p₂ = p₁ ++ c .counts
@@ -158,7 +161,7 @@ module _ (c : Case) (counts : length (c .counts) ≡ 4) (masks : length (c .mask
   unfolding contents
   contents-kept =
       sym
-      (case-is (contents c) (c .procs) (c .locs) (c .bound) (c .counts) (c .masks) (c .presets) (c .memory) (c .code) refl refl refl
+      (case-is (contents c) (c .procs) (c .locs) (c .counts) (c .masks) (c .presets) (c .memory) (c .code) refl refl
       (sym (each-mid p₁ (c .counts) (c .masks ++ q₁) 4 refl 4 0 counts))
       (sym (ap (λ (s : List ℕ). each 4 (λ i. byte s (8 + i))) e₂ ∙ each-mid p₂ (c .masks) q₁ 8 n₂ 4 0 masks))
       (sym (ap (λ (s : List ℕ). each 32 (λ i. word s (12 + 2 * i))) e₃ ∙ words-mid p₃ q₂ 12 n₃ (c .presets) 32 presets))

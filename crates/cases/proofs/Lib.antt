@@ -14,3 +14,4 @@ pub mod Signed
 pub mod Positions
 pub mod Told
 pub mod RoundTrip
+pub mod Twins

@@ -126,10 +126,10 @@ put-on front s new s′ k n e q p = ap (λ (m : ℕ). take m s′) (sym q) ∙ p
 module _ (c : Case) (counts : length (c .counts) ≡ 4) (masks : length (c .masks) ≡ 4) where
   -- bytes 0 to 11
   abbrev head : List ℕ
-  head = ((c .procs ∷ c .locs ∷ c .bound ∷ 0 ∷ []) ++ c .counts) ++ c .masks
+  head = ((c .procs ∷ c .locs ∷ 0 ∷ 0 ∷ []) ++ c .counts) ++ c .masks
 
   head-long : length head ≡ 12
-  head-long = omega (arith, length-append ((c .procs ∷ c .locs ∷ c .bound ∷ 0 ∷ []) ++ c .counts) (c .masks), length-append (c .procs ∷ c .locs ∷ c .bound ∷ 0 ∷ []) (c .counts))
+  head-long = omega (arith, length-append ((c .procs ∷ c .locs ∷ 0 ∷ 0 ∷ []) ++ c .counts) (c .masks), length-append (c .procs ∷ c .locs ∷ 0 ∷ 0 ∷ []) (c .counts))
 
   head-is : take 12 (contents c) ≡ head
   unfolding contents
@@ -138,7 +138,7 @@ module _ (c : Case) (counts : length (c .counts) ≡ 4) (masks : length (c .mask
       let whole : contents c ≡ head ++ rest = sym (simp append-assoc) in
       ap (take 12) whole ∙ take-at head rest 12 head-long
 
-  pub headed : (s₀ s₁ s₂ s₃ : List ℕ) → Put s₀ 0 (c .procs ∷ c .locs ∷ c .bound ∷ 0 ∷ []) s₁ → Put s₁ 4 (c .counts) s₂ → Put s₂ 8 (c .masks) s₃ → Put s₀ 0 (take 12 (contents c)) s₃
+  pub headed : (s₀ s₁ s₂ s₃ : List ℕ) → Put s₀ 0 (c .procs ∷ c .locs ∷ 0 ∷ 0 ∷ []) s₁ → Put s₁ 4 (c .counts) s₂ → Put s₂ 8 (c .masks) s₃ → Put s₀ 0 (take 12 (contents c)) s₃
   headed s₀ s₁ s₂ s₃ p₁ p₂ p₃ =
       let e₂ = put-on _ s₁ (c .counts) s₂ 4 8 (p₁ .front) (omega arith) p₂ in
       let e₃ = put-on _ s₂ (c .masks) s₃ 8 12 e₂ (omega arith) p₃ in

@@ -66,7 +66,7 @@ block-bytes c f =
     append-bytes (contents c)
     (cons-bytes (f .procs)
     (cons-bytes (f .locs)
-    (cons-bytes (f .bound)
+    (cons-bytes (omega arith)
     (cons-bytes (omega arith)
     (append-bytes (c .counts) (f .counts .1)
     (append-bytes (c .masks) (f .masks .1)

@@ -5,8 +5,8 @@ use mathlib.Core.List.{List, _∷_, _++_}
 use Prim.Native.Nat.{ℕ, _-_, _<_}
 use native.Mathlib.Omega.{arith}
 use lib.Dec.{eqb, lit<}
-use lib.ListN.{length, getD, take, replicate}
-use lib.Seq.{getD-take}
+use lib.ListN.{length, getD, set, take, replicate}
+use lib.Seq.{getD-take, set-getD}
 use borrow.Author.Tests.{eq-eqb, ne-eqb}
 use Rattle.words.specs.Refusals.{_when_, firstOf}
 use Rattle.words.proofs.Bools.{cond-true, cond-false}
@@ -14,7 +14,7 @@ use Rattle.words.proofs.First.{hit, first, not-yes}
 use Rattle.cases.specs.declared.Case.{Case}
 use Rattle.cases.specs.declared.Fault.{Fault}
 use Rattle.cases.specs.Instruction.{two}
-use Rattle.cases.specs.Block.{faults, check, contents, blockOf, faultOf, sealCode, sealFault, sealed, writeCode, writeFault, written}
+use Rattle.cases.specs.Block.{faults, check, contents, blockOf, faultOf, unbounded, sealCode, sealFault, sealed, writeCode, writeFault, written}
 use Rattle.cases.proofs.Agree.{faults-same, fault-same, check-same}
 use Rattle.cases.proofs.Lowest.{fault-none}
 
@@ -24,7 +24,7 @@ module _ (b b′ : List ℕ) where
   unfolding sealed
   zeros n q h e =
       let z : length b - 0 ≡ length b = omega arith in
-      e ∙ ap (λ (n : ℕ). replicate n 0) z ∙ sym (cond-false (eqb (sealCode b) 0) (take 510 b ++ two (check b)) (replicate (length b) 0) (ne-eqb _ 0 (λ w. h (q ∙ w))))
+      e ∙ ap (λ (n : ℕ). replicate n 0) z ∙ sym (cond-false (eqb (sealCode b) 0) (take 510 (unbounded b) ++ two (check (unbounded b))) (replicate (length b) 0) (ne-eqb _ 0 (λ w. h (q ∙ w))))
 
   pub no-room : (length b ≡ 512 → ⊥) → b′ ≡ take 0 b ++ replicate (length b - 0) 0 → (record { code = 1; position = 0 } ≡ sealFault b) × (b′ ≡ sealed b)
   unfolding sealCode
@@ -46,9 +46,9 @@ module _ (b b′ : List ℕ) where
     pub refused : (f .code ≡ 0 → ⊥) → b′ ≡ take 0 b ++ replicate (length b - 0) 0 → (f ≡ sealFault b) × (b′ ≡ sealed b)
     refused h z = (fault-is, zeros (f .code) code-is h z)
 
-    pub accepted : f .code ≡ 0 → b′ ≡ take 510 b ++ two (check b) → (f ≡ sealFault b) × (b′ ≡ sealed b)
+    pub accepted : f .code ≡ 0 → b′ ≡ take 510 (unbounded b) ++ two (check (unbounded b)) → (f ≡ sealFault b) × (b′ ≡ sealed b)
     unfolding sealed
-    accepted h z = (fault-is, z ∙ sym (cond-true (eqb (sealCode b) 0) (take 510 b ++ two (check b)) (replicate (length b) 0) (eq-eqb _ 0 (sym code-is ∙ h))))
+    accepted h z = (fault-is, z ∙ sym (cond-true (eqb (sealCode b) 0) (take 510 (unbounded b) ++ two (check (unbounded b))) (replicate (length b) 0) (eq-eqb _ 0 (sym code-is ∙ h))))
 
 -- a buffer that is filled with the contents of a case, and then sealed
 module _ (c : Case) (s : List ℕ) (long : length s ≡ 512) (front : take 510 s ≡ contents c) where
@@ -62,10 +62,16 @@ module _ (c : Case) (s : List ℕ) (long : length s ≡ 512) (front : take 510 s
   pub fault-written : sealFault s ≡ writeFault c 512
   fault-written = fault-same s (contents c) agrees (sealCode s) (writeCode c 512) code-written
 
+  -- the contents of a case have no usual bound
+  no-bound : unbounded s ≡ s
+  unfolding contents
+  no-bound = ap (set s 2) (sym (agrees 2 (lit< tt))) ∙ set-getD s 2 0
+
   pub sealed-written : sealed s ≡ written c 512
   unfolding sealed written blockOf
   sealed-written =
-      ap (λ (n : ℕ). cond (eqb n 0) (take 510 s ++ two (check s)) (replicate (length s) 0)) code-written
+      ap (λ (l : List ℕ). cond (eqb (sealCode s) 0) (take 510 l ++ two (check l)) (replicate (length s) 0)) no-bound
+      ∙ ap (λ (n : ℕ). cond (eqb n 0) (take 510 s ++ two (check s)) (replicate (length s) 0)) code-written
       ∙ (λ i. cond (eqb (writeCode c 512) 0) (front i ++ two (check-same s (contents c) agrees i)) (replicate (long i) 0))
 
 module _ (c : Case) (b b′ : List ℕ) where

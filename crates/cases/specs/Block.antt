@@ -4,7 +4,7 @@ use mathlib.Core.Bool.{Bool, false, _&&_, _||_, not, cond}
 use mathlib.Core.List.{List, [], _∷_, _++_}
 use Prim.Native.Nat.{ℕ, zero, suc, _+_, _*_, _-_, _/_, _%_}
 use lib.Dec.{eqb, ltb, leb}
-use lib.ListN.{length, getD, take, replicate}
+use lib.ListN.{length, getD, set, take, replicate}
 use Rattle.words.specs.Small.{each, someBelow, concatMap}
 use Rattle.words.specs.Refusals.{Refusal, _when_, firstOf}
 use Rattle.words.specs.Sets.{has}
@@ -163,7 +163,6 @@ module _ (s : List ℕ) where
       record {
         procs = byte 0;
         locs = byte 1;
-        bound = byte 2;
         counts = each 4 (λ p. byte (4 + p));
         masks = each 4 (λ p. byte (8 + p));
         presets = each 32 (λ n. word (12 + 2 * n));
@@ -177,7 +176,6 @@ nothing =
     record {
       procs = 1;
       locs = 1;
-      bound = 0;
       counts = replicate 4 0;
       masks = replicate 4 0;
       presets = replicate 32 0;
@@ -190,22 +188,22 @@ abbrev pub caseWith : ℕ → Case → Case
 caseWith zero c = c
 caseWith (suc n) c = nothing
 
--- What reading answers: the first code that applies, its position, and the case.
+-- What reading answers: the first code that applies, its position, whether an accepted block has a usual bound, which is dropped, and the case.
 unfoldable pub readOf : List ℕ → CaseRead
 readOf s =
     let code = firstOf (refusals s) in
-    record { code = code; position = positionOf s code; case = caseWith code (caseOf s) }
+    record { code = code; position = positionOf s code; usual = eqb code 0 && marked s 2; case = caseWith code (caseOf s) }
 
 -- The six bytes of a slot.
 abbrev pub slotBytes : Slot → List ℕ
 slotBytes slot = instrBytes (slot .instr)
 
--- Bytes 0 to 509 of the block that holds a case, in their order.
+-- Bytes 0 to 509 of the block that holds a case, in their order; byte 2 is 0.
 unfoldable pub contents : Case → List ℕ
 contents c =
     c .procs
     ∷ c .locs
-    ∷ c .bound
+    ∷ 0
     ∷ 0
     ∷ (c .counts
     ++ (c .masks
@@ -224,12 +222,16 @@ Sound c = firstOf (faults (contents c)) ≡ 0
 unfoldable pub sealCode : List ℕ → ℕ
 sealCode s = firstOf (1 when not (eqb (length s) 512) ∷ faults s)
 
--- What sealing answers: the code and its position; and what the bytes then are: the first 510 with their check, or all zeros.
+-- The bytes with 0 in byte 2: no usual bound is written.
+abbrev pub unbounded : List ℕ → List ℕ
+unbounded s = set s 2 0
+
+-- What sealing answers: the code and its position; and what the bytes then are: the first 510 without usual bound, with their check, or all zeros.
 abbrev pub sealFault : List ℕ → Fault
 sealFault s = faultOf s (sealCode s)
 
 unfoldable pub sealed : List ℕ → List ℕ
-sealed s = cond (eqb (sealCode s) 0) (take 510 s ++ two (check s)) (replicate (length s) 0)
+sealed s = cond (eqb (sealCode s) 0) (take 510 (unbounded s) ++ two (check (unbounded s))) (replicate (length s) 0)
 
 -- The code of a case to be written into a buffer of a size: 1 on the buffer, then 3 to 7 and 19 on the bytes that the case would have.
 unfoldable pub writeCode : Case → ℕ → ℕ

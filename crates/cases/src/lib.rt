@@ -36,7 +36,6 @@ pub struct Slot {
 pub struct Case {
     pub procs: u8,
     pub locs: u8,
-    pub bound: u8,
     pub counts: [u8; 4],
     pub masks: [u8; 4],
     pub presets: [u16; 32],
@@ -44,10 +43,11 @@ pub struct Case {
     pub code: [Slot; 48],
 }
 
-// What reading a block answers: the code, its position, and the case.
+// What reading a block answers: the code, its position, whether an accepted block has a usual bound, which is dropped, and the case.
 pub struct CaseRead {
     pub code: u8,
     pub position: usize,
+    pub usual: bool,
     pub case: Case,
 }
 
@@ -66,17 +66,19 @@ pub fn read_case(block: &[u8]) -> CaseRead
         return CaseRead {
             code: fault.code,
             position: fault.position,
+            usual: false,
             case: reading::nothing(),
         };
     }
     CaseRead {
         code: 0,
         position: 0,
+        usual: reading::usual(block),
         case: reading::case_of(block),
     }
 }
 
-// Makes a block of a buffer that holds one but for its check. Refused, the buffer is all zeros.
+// Makes a block without usual bound of a buffer that holds one but for its check. Refused, the buffer is all zeros.
 pub fn seal(block: &mut [u8]) -> Fault
     ensures { λ r. ⌜ (r ≡ sealFault (now (block .entry))) × (now (block .exit) ≡ sealed (now (block .entry))) ⌝ }
 {

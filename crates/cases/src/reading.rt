@@ -15,7 +15,7 @@ ghost use lib.ListN.{length, replicate};
 ghost use Rattle.words.specs.Small.{each};
 ghost use Rattle.words.specs.Refusals.{firstOf};
 ghost use Rattle.cases.specs.Instruction.{instrOf};
-ghost use Rattle.cases.specs.Block.{byte as byteOf, word as wordOf, refusals, faultOf, slotAt, caseOf, nothing as nothingOf};
+ghost use Rattle.cases.specs.Block.{byte as byteOf, word as wordOf, refusals, marked, faultOf, slotAt, caseOf, nothing as nothingOf};
 
 // The first of codes 1 to 7 and 19 that a block gets, with its position.
 pub fn refusal(block: &[u8]) -> Fault
@@ -122,6 +122,13 @@ fn read_four(block: &[u8], at: usize) -> [u8; 4]
     ]
 }
 
+// Whether there is a usual bound.
+pub fn usual(block: &[u8]) -> bool
+    ensures { λ r. ⌜ r ≡ marked (now (block .entry)) 2 ⌝ }
+{
+    !(byte(block, 2) == 0)
+}
+
 // The case that the block holds.
 pub fn case_of(block: &[u8]) -> Case
     ensures { λ r. ⌜ r ≡ caseOf (now (block .entry)) ⌝ }
@@ -133,7 +140,6 @@ pub fn case_of(block: &[u8]) -> Case
     Case {
         procs: byte(block, 0),
         locs: byte(block, 1),
-        bound: byte(block, 2),
         counts: read_four(block, 4),
         masks: read_four(block, 8),
         presets,
@@ -149,7 +155,6 @@ pub fn nothing() -> Case
     Case {
         procs: 1,
         locs: 1,
-        bound: 0,
         counts: [0; 4],
         masks: [0; 4],
         presets: [0; 32],

@@ -10,7 +10,7 @@ ghost use Prim.Native.Nat.{_+_, _*_, _-_, _≤_, _<_};
 ghost use lib.ListN.{length, take, replicate};
 ghost use Rattle.words.specs.Small.{concatMap};
 ghost use Rattle.cases.specs.Instruction.{two as twoOf, six as sixOf, localBytes, instrBytes};
-ghost use Rattle.cases.specs.Block.{slotBytes, contents, check as checkOf};
+ghost use Rattle.cases.specs.Block.{slotBytes, contents, unbounded, check as checkOf};
 ghost use Rattle.cases.specs.Putting.{Put};
 
 // A two-byte number, low byte first.
@@ -112,7 +112,7 @@ fn put_head(case: Case, block: &mut [u8])
     requires { ⌜ length (now block) ≡ 512 ⌝ }
     ensures { λ _. ⌜ Put (now (block .entry)) 0 (take 12 (contents case)) (now (block .exit)) ⌝ }
 {
-    let head = [case.procs, case.locs, case.bound, 0];
+    let head = [case.procs, case.locs, 0, 0];
     put(block, 0, &head);
     let counts = case.counts;
     put(block, 4, &counts);
@@ -135,11 +135,12 @@ pub fn fill(case: Case, block: &mut [u8])
     clear(block, 380);
 }
 
-// The check put behind the bytes that it is of.
+// The usual bound taken away, and the check put behind the bytes that it is of.
 pub fn sign(block: &mut [u8])
     requires { ⌜ length (now block) ≡ 512 ⌝ }
-    ensures { λ _. ⌜ now (block .exit) ≡ take 510 (now (block .entry)) ++ twoOf (checkOf (now (block .entry))) ⌝ }
+    ensures { λ _. ⌜ now (block .exit) ≡ take 510 (unbounded (now (block .entry))) ++ twoOf (checkOf (unbounded (now (block .entry)))) ⌝ }
 {
+    block[2] = 0;
     let sum = check(block) as u16;
     let pair = two(sum);
     put(block, 510, &pair);

@@ -1,5 +1,5 @@
 -- At most one answer satisfies the statement of a listing, and an unmarked list is that of every larger bound. Assumes nothing.
-use mathlib.Core.Path.{_≡_, refl, sym, _∙_}
+use mathlib.Core.Path.{_≡_, refl, sym, _∙_, subst}
 use mathlib.Core.Bool.{false}
 use mathlib.Core.List.{List}
 use Prim.Native.Nat.{ℕ, zero, suc, _*_, _/_, _≤_, _<_}
@@ -7,12 +7,15 @@ use native.Mathlib.Omega.{arith}
 use native.Mathlib.Decide.{decLt}
 use lib.ListN.{length}
 use Rattle.words.specs.Refusals.{firstOf}
+use Rattle.cases.specs.declared.Case.{Case}
 use Rattle.cases.specs.Block.{caseOf}
+use Rattle.cases.specs.Formed.{Twins}
+use Rattle.cases.proofs.Twins.{twins-code, twins-case, twins-position}
 use Rattle.runs.specs.Listing.{Listed, Refused, IsListing}
 use Rattle.rules.specs.Womm.{womm}
 use Rattle.rules.proofs.Listing.{listing-unique, listing-same}
 use Rattle.listing.specs.Outcomes.{listRefusals, IsOutcomes}
-use Rattle.listing.proofs.Refusals.{accepted, accepted-block}
+use Rattle.listing.proofs.Refusals.{accepted, accepted-block, same-code}
 
 refused-unique : (why size : ℕ) (a b : Listed) (out buf : List ℕ) → Refused why size a out → Refused why size b buf → (a ≡ b) × (out ≡ buf)
 refused-unique why size a b out buf x y =
@@ -50,3 +53,13 @@ outcomes-room block bound size a at out x ok = by-code (firstOf (listRefusals bl
     by-code : (n : ℕ) → firstOf (listRefusals block bound) ≡ n → 96 * a .count ≤ size
     by-code zero e = by-list (x .sound e)
     by-code (suc n) e = let h : 0 < firstOf (listRefusals block bound) = omega (arith, e) in absurd (omega (arith, x .unsound h .code))
+
+-- THE SAME FOR BLOCKS THAT DIFFER IN THE USUAL BOUND AND THE CHECK ALONE
+pub twins-outcomes : (s t : List ℕ) (bound size : ℕ) (a : Listed) (at : ℕ) (out : List ℕ) → Twins s t → IsOutcomes s bound size a at out → IsOutcomes t bound size a at out
+twins-outcomes s t bound size a at out w x =
+    let code = same-code s t bound (twins-code s t w) in
+    record {
+      sound = λ z. subst (λ (c : Case). IsListing (womm c) bound size a out) (twins-case s t w) (x .sound (code ∙ z));
+      unsound = λ h. subst (λ (n : ℕ). Refused n size a out) code (x .unsound (subst (λ (n : ℕ). 0 < n) (sym code) h));
+      position = x .position ∙ twins-position s t w;
+    }

@@ -3,6 +3,7 @@ use mathlib.Core.Path.{_≡_, refl, sym, _∙_, subst}
 use mathlib.Core.List.{List, [], _∷_, _++_}
 use Prim.Native.Nat.{ℕ, zero, suc, _≤_, _<_}
 use native.Mathlib.Omega.{arith}
+use native.Mathlib.Decide.{decLt}
 use lib.Dec.{ltb}
 use borrow.Author.Tests.{lt-ltb, le-ltb}
 use Rattle.words.specs.Refusals.{_when_, firstOf}
@@ -45,6 +46,18 @@ module _ (block : List ℕ) (bound : ℕ) where
     -- listed, where none applies
     outcomes-listed : firstOf (listRefusals block bound) ≡ 0 → at ≡ readOf block .position → IsListing (womm (caseOf block)) bound size a out → IsOutcomes block bound size a at out
     outcomes-listed e q x = record { sound = λ _. x; unsound = λ h. absurd (omega (arith, e)); position = q }
+
+-- two blocks with the same code
+pub same-code : (s t : List ℕ) (bound : ℕ) → firstOf (refusals s) ≡ firstOf (refusals t) → firstOf (listRefusals s bound) ≡ firstOf (listRefusals t bound)
+same-code s t bound e = by-code (firstOf (refusals s)) refl
+  where
+    by-code : (n : ℕ) → firstOf (refusals s) ≡ n → firstOf (listRefusals s bound) ≡ firstOf (listRefusals t bound)
+    by-code zero z =
+        elim (decLt 96 bound) [
+          | yes l ↦ first-bound s bound z l ∙ sym (first-bound t bound (sym e ∙ z) l)
+          | no g ↦ let l : bound ≤ 96 = omega arith in accepted s bound z l ∙ sym (accepted t bound (sym e ∙ z) l)
+        ]
+    by-code (suc n) z = first-block s bound (omega (arith, z)) ∙ e ∙ sym (first-block t bound (omega (arith, z, e)))
 
 -- a block that is read as r
 module _ (block : List ℕ) {r : CaseRead} (read : r ≡ readOf block) where

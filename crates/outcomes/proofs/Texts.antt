@@ -22,7 +22,7 @@ use Rattle.listing.proofs.Refusals.{accepted-block}
 use Rattle.listing.proofs.Exact.{outcomes-unique}
 use Rattle.lines.specs.Answers.{refusalLine}
 use Rattle.lines.specs.Outcome.{listText}
-use Rattle.outcomes.specs.Said.{boundOf, textOf, Listing, Said}
+use Rattle.outcomes.specs.Said.{textOf, Listing, Said}
 
 text-refused : (code procs : ℕ) (a : Listed) (at : ℕ) (out : List ℕ) → (code ≡ 0 → ⊥) → refusalLine code at ≡ textOf code procs a at out
 text-refused zero procs a at out some = absurd (some refl)
@@ -33,8 +33,8 @@ text-listed zero procs a at out none = refl
 text-listed (suc code) procs a at out none = absurd (omega arith)
 
 -- the answer to an input
-module _ (input : List ℕ) {bound size : ℕ} {a : Listed} {at : ℕ} {out : List ℕ} (same : bound ≡ boundOf (getD input 512 0) (getD input 2 0)) (long : 65536 ≡ size) (x : IsOutcomes (take 512 input) bound size a at out) where
-  right : IsOutcomes (take 512 input) (boundOf (getD input 512 0) (getD input 2 0)) 65536 a at out
+module _ (input : List ℕ) {bound size : ℕ} {a : Listed} {at : ℕ} {out : List ℕ} (same : bound ≡ getD input 512 0) (long : 65536 ≡ size) (x : IsOutcomes (take 512 input) bound size a at out) where
+  right : IsOutcomes (take 512 input) (getD input 512 0) 65536 a at out
   right = subst (λ (b : ℕ). IsOutcomes (take 512 input) b 65536 a at out) same (subst (λ (n : ℕ). IsOutcomes (take 512 input) bound n a at out) (sym long) x)
 
   pub refused-said : (a .code ≡ 0 → ⊥) → Listing input (refusalLine (a .code) at)
@@ -78,5 +78,5 @@ said-only input s t x y =
   where
     listing-only : Listing input s → Listing input t → s ≡ t
     listing-only p q =
-        let same = outcomes-unique (take 512 input) (boundOf (getD input 512 0) (getD input 2 0)) 65536 (p .answer) (q .answer) (p .position) (q .position) (p .records) (q .records) (p .right) (q .right) in
+        let same = outcomes-unique (take 512 input) (getD input 512 0) 65536 (p .answer) (q .answer) (p .position) (q .position) (p .records) (q .records) (p .right) (q .right) in
         p .says ∙ ap (λ (a : Listed). textOf (a .code) (getD input 0 0) a (p .position) (p .records)) (same .0) ∙ ap (λ (k : ℕ). textOf (q .answer .code) (getD input 0 0) (q .answer) k (p .records)) (same .1) ∙ ap (textOf (q .answer .code) (getD input 0 0) (q .answer) (q .position)) (same .2) ∙ sym (q .says)

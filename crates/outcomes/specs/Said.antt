@@ -1,9 +1,7 @@
 -- Document 01, 'How it is called': what the program `outcomes` prints of its input. Assumes nothing.
 use mathlib.Core.Path.{_≡_}
-use mathlib.Core.Bool.{cond}
 use mathlib.Core.List.{List}
 use Prim.Native.Nat.{ℕ, zero, suc}
-use lib.Dec.{eqb}
 use lib.ListN.{length, take, getD}
 use Rattle.runs.specs.Listing.{Listed}
 use Rattle.records.specs.Buffer.{recordsIn}
@@ -12,21 +10,17 @@ use Rattle.lines.specs.Laid.{Printed}
 use Rattle.lines.specs.Answers.{refusalLine}
 use Rattle.lines.specs.Outcome.{listText}
 
--- 'a bound (255: use the block's usual bound)'
-abbrev pub boundOf : ℕ → ℕ → ℕ
-boundOf byte usual = cond (eqb byte 255) usual byte
-
 -- The text of an answer, its position and its records, with so many processors present: 'A refusal prints `refused C` alone.'
 abbrev pub textOf : ℕ → ℕ → Listed → ℕ → List ℕ → List ℕ
 textOf zero procs a position records = listText procs (a .cut) (recordsIn (a .count) records)
 textOf (suc code) procs a position records = refusalLine (suc code) position
 
--- 'takes exactly 513 bytes, a block and a bound': the text of the list, with room for 682 records.
+-- 'takes exactly 513 bytes, a block and a bound' (request 12: 255 is like any other over 96): the text of the list, with room for 682 records.
 pub record Listing (input text : List ℕ) : Type 0 where
   pub answer : Listed
   pub position : ℕ
   pub records : List ℕ
-  pub right : IsOutcomes (take 512 input) (boundOf (getD input 512 0) (getD input 2 0)) 65536 answer position records
+  pub right : IsOutcomes (take 512 input) (getD input 512 0) 65536 answer position records
   pub says : text ≡ textOf (answer .code) (getD input 0 0) answer position records
 
 -- 'another length prints `refused 1`', with position 0

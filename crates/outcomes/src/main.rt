@@ -1,18 +1,15 @@
-// Lists the outcomes of a case. Standard input is a block and a bound, 513 bytes in all; bound 255 stands for the block's usual one.
+// Lists the outcomes of a case. Standard input is a block and a bound, 513 bytes in all.
 use libc::STDIN_FILENO;
 use libc::STDOUT_FILENO;
 ghost use mathlib.Core.Path.{_≡_};
 ghost use Prim.Native.Nat.{_≤_};
 ghost use lib.ListN.{length};
-ghost use Rattle.outcomes.specs.Said.{boundOf, Listing, Said, Answered};
+ghost use Rattle.outcomes.specs.Said.{Listing, Said, Answered};
 
-// The bound that a byte stands for, where `usual` is the block's usual bound.
-fn bound_of(byte: u8, usual: u8) -> u32
-    ensures { λ r. ⌜ r ≡ boundOf byte usual ⌝ }
+// The bound that a byte stands for.
+fn bound_of(byte: u8) -> u32
+    ensures { λ r. ⌜ r ≡ byte ⌝ }
 {
-    if byte == 255 {
-        return usual as u32;
-    }
     byte as u32
 }
 
@@ -21,7 +18,7 @@ fn list(input: &[u8], text: &mut [u8]) -> usize
     requires { ⌜ (length (now input) ≡ 513) × (145304 ≤ length (now text)) ⌝ }
     ensures { λ r. ⌜ Answered (Listing (now (input .entry))) (now (text .entry)) (now (text .exit)) r ⌝ }
 {
-    let bound = bound_of(input[512], input[2]);
+    let bound = bound_of(input[512]);
     let mut records = io::large_buffer();
     let listed = listing::outcomes(&input[0..512], bound, &mut records);
     let code = listed.code;

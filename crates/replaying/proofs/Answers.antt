@@ -13,7 +13,9 @@ use Rattle.words.proofs.First.{First, first, hit, miss, first-none}
 use Rattle.words.proofs.Passed.{positive}
 use Rattle.cases.specs.declared.Case.{Case}
 use Rattle.cases.specs.Block.{refusals, caseOf, readOf}
+use Rattle.cases.specs.Formed.{Twins}
 use Rattle.cases.proofs.Told.{read-sound, accepted-position}
+use Rattle.cases.proofs.Twins.{twins-code, twins-case, twins-position}
 use Rattle.runs.specs.Replay.{replay}
 use Rattle.rules.specs.State.{initial}
 use Rattle.rules.specs.Step.{stepsOf}
@@ -121,3 +123,17 @@ replay-unique block schedule size r r′ out out′ u v =
     let place = u .place ∙ sym (v .place) in
     let position = u .position ∙ sym (v .position) in
     ((λ j. record { code = code j; steps = steps j; place = place j; position = position j }), u .bytes ∙ sym (v .bytes))
+
+-- Two blocks that differ in the usual bound and the check alone have the same replays.
+pub twins-replay : (s t schedule : List ℕ) (size : ℕ) (r : Replayed) (out : List ℕ) → Twins s t → IsReplay s schedule size r out → IsReplay t schedule size r out
+unfolding replayed
+twins-replay s t schedule size r out w u =
+    let code = codes-are s schedule size ∙ ap (λ (n : ℕ). cond (eqb n 0) (firstOf (lengthRefusals (length schedule) size)) n) (twins-code s t w) ∙ sym (codes-are t schedule size) in
+    let same : replayed s schedule size ≡ replayed t schedule size = λ j. answerFrom (code j) (twins-case s t w j) (stepsOf schedule) size in
+    record {
+      code = u .code ∙ ap (λ (a : Answer). a .code) same;
+      steps = u .steps ∙ ap (λ (a : Answer). a .steps) same;
+      place = u .place ∙ ap (λ (a : Answer). a .place) same;
+      bytes = u .bytes ∙ ap (λ (a : Answer). a .bytes) same;
+      position = u .position ∙ twins-position s t w;
+    }

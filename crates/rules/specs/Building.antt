@@ -42,7 +42,6 @@ shape m ps =
     record {
       procs = length ps;
       locs = m;
-      bound = 0;
       counts = four 0 (λ q. length (q .instrs)) ps;
       masks = four 0 (λ q. maskOf (q .fourth)) ps;
       presets = concatMap (λ l. l) (four (replicate 8 0) (λ q. presetsOf (q .fourth)) ps);

@@ -6,8 +6,8 @@ use Rattle.runs.specs.Listing.{Listed}
 use Rattle.listing.proofs.Exact.{outcomes-unique}
 use Rattle.womm.specs.Exports.{markOf, ReadAs, WrittenAs, ReplayedAs, ListedAs}
 
-pub one-read : (block : List ℕ) (r r′ at at′ : ℕ) → ReadAs block r at → ReadAs block r′ at′ → (r ≡ r′) × (at ≡ at′)
-one-read block r r′ at at′ a b = (a .code ∙ sym (b .code), a .position ∙ sym (b .position))
+pub one-read : (block : List ℕ) (r r′ at at′ u u′ : ℕ) → ReadAs block r at u → ReadAs block r′ at′ u′ → (r ≡ r′) × (at ≡ at′) × (u ≡ u′)
+one-read block r r′ at at′ u u′ a b = (a .code ∙ sym (b .code), a .position ∙ sym (b .position), a .usual ∙ sym (b .usual))
 
 pub one-write : (block : List ℕ) (r r′ at at′ : ℕ) (out out′ : List ℕ) → WrittenAs block r at out → WrittenAs block r′ at′ out′ → (r ≡ r′) × (at ≡ at′) × (out ≡ out′)
 one-write block r r′ at at′ out out′ a b = (a .code ∙ sym (b .code), a .position ∙ sym (b .position), a .bytes ∙ sym (b .bytes))

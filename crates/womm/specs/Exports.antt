@@ -12,10 +12,11 @@ use Rattle.listing.specs.Outcomes.{IsOutcomes}
 abbrev pub markOf : Bool → ℕ
 markOf b = cond b 1 0
 
--- A block is read: its code r and its position at.
-pub record ReadAs (block : List ℕ) (r at : ℕ) : Type 0 where
+-- A block is read: its code r, its position at, and the mark u of a usual bound that was dropped.
+pub record ReadAs (block : List ℕ) (r at u : ℕ) : Type 0 where
   pub code : r ≡ readOf block .code
   pub position : at ≡ readOf block .position
+  pub usual : u ≡ markOf (readOf block .usual)
 
 -- A block is written: its code r and its position at, and the bytes out that the buffer then holds.
 pub record WrittenAs (block : List ℕ) (r at : ℕ) (out : List ℕ) : Type 0 where

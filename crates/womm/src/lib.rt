@@ -6,17 +6,20 @@ ghost use Rattle.clauses.specs.Wanted.{clausesOf};
 ghost use Rattle.womm.specs.Exports.{ReadAs, WrittenAs, ReplayedAs, ListedAs};
 ghost use Rattle.womm.specs.Asking.{AskedAs};
 
-// Reads a block: 0 where it holds a case, else the first of codes 1 to 7 and 19; and the position that the code carries.
+// Reads a block: 0 where it holds a case, else the first of codes 1 to 7 and 19; the position that the code carries; and 1 where an accepted block has
+// a usual bound, which is dropped, else 0.
 #[no_mangle]
-pub extern "C" fn womm_read(block: &[u8], position: &mut usize) -> u32
-    ensures { λ r. ⌜ ReadAs (now (block .entry)) r (now (position .exit)) ⌝ }
+pub extern "C" fn womm_read(block: &[u8], position: &mut usize, usual: &mut usize) -> u32
+    ensures { λ r. ⌜ ReadAs (now (block .entry)) r (now (position .exit)) (now (usual .exit)) ⌝ }
 {
     let read = cases::read_case(block);
     *position = read.position;
+    *usual = read.usual as usize;
     read.code as u32
 }
 
-// Writes a block: the buffer holds a case in bytes 0 to 509, as the block's table lays it out, and gets its check. Refused, it is all zeros.
+// Writes a block: the buffer holds a case in bytes 0 to 509, as the block's table lays it out, loses its usual bound and gets its check. Refused, it is
+// all zeros.
 #[no_mangle]
 pub extern "C" fn womm_write(block: &mut [u8], position: &mut usize) -> u32
     ensures { λ r. ⌜ WrittenAs (now (block .entry)) r (now (position .exit)) (now (block .exit)) ⌝ }

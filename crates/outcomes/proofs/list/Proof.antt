@@ -17,9 +17,6 @@ use Rattle.outcomes.proofs.list.Tie as tie
 shared-slice-read-bound-of : tie.Need-shared-slice-read-bound-of
 shared-slice-read-bound-of c = search needs
 
-shared-slice-read-bound-of-2 : tie.Need-shared-slice-read-bound-of-2
-shared-slice-read-bound-of-2 c = search needs
-
 bound-of-requires : tie.Need-bound-of-requires
 bound-of-requires c κs = search needs
 
@@ -53,7 +50,7 @@ returns c =
     let test = c .before .before .before .before in
     let found = test .before .before in
     let buffer = found .before .before .before in
-    let start = buffer .before .before .before .before .before .before in
+    let start = buffer .before .before .before .before .before in
     let input = start .args .input .now in
     record {
       text = refusalLine (found .outcomes .result .code) (found .outcomes .result .position);
@@ -95,7 +92,7 @@ returns-2 c =
     let found = test .before .before in
     let x = found .outcomes in
     let buffer = found .before .before .before in
-    let start = buffer .before .before .before .before .before .before in
+    let start = buffer .before .before .before .before .before in
     let input = start .args .input .now in
     let records = x .last .1 .1 .0 in
     let procs = getD input 0 0 in
@@ -116,7 +113,6 @@ list-spec =
     tie.close
     (tie.spec
     shared-slice-read-bound-of
-    shared-slice-read-bound-of-2
     bound-of-requires
     large-buffer-requires
     sub-outcomes

@@ -1,4 +1,3 @@
--- A cut mark as the number that stands for it.
 use mathlib.Core.Path.{refl}
 use Rattle.listing.specs.Outcomes.{answerOf}
 use Rattle.womm.proofs.Marks.{mark}

@@ -21,9 +21,6 @@ byte-requires c κs = search needs
 byte-requires-2 : tie.Need-byte-requires-2
 byte-requires-2 c κs = search needs
 
-byte-requires-3 : tie.Need-byte-requires-3
-byte-requires-3 c κs = search needs
-
 read-four-requires : tie.Need-read-four-requires
 read-four-requires c κs = search needs
 
@@ -37,13 +34,12 @@ returns : tie.Need-returns
 returns c =
     let r₁ = c .before in
     let r₀ = r₁ .before in
-    let b₂ = r₀ .before in
-    let b₁ = b₂ .before in
+    let b₁ = r₀ .before in
     let b₀ = b₁ .before in
     let m = b₀ .before .before in
     let p = m .before .before .before in
     let s = p .before .before .before .args .block .now in
-    case-is s (b₀ .byte .result) (b₁ .byte2 .result) (b₂ .byte3 .result) (r₀ .read-four .result) (r₁ .read-four2 .result) _ _ (c .read-code .result) (b₀ .byte .ensures) (b₁ .byte2 .ensures) (b₂ .byte3 .ensures) (r₀ .read-four .ensures) (r₁ .read-four2 .ensures) (p .read-words .ensures) (m .read-words2 .ensures) (c .read-code .ensures)
+    case-is s (b₀ .byte .result) (b₁ .byte2 .result) (r₀ .read-four .result) (r₁ .read-four2 .result) _ _ (c .read-code .result) (b₀ .byte .ensures) (b₁ .byte2 .ensures) (r₀ .read-four .ensures) (r₁ .read-four2 .ensures) (p .read-words .ensures) (m .read-words2 .ensures) (c .read-code .ensures)
 
 pub case-of-spec : {M : Type 1} → statement M
 case-of-spec =
@@ -55,7 +51,6 @@ case-of-spec =
     read-words-requires-2
     byte-requires
     byte-requires-2
-    byte-requires-3
     read-four-requires
     read-four-requires-2
     read-code-requires
