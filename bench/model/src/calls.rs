@@ -118,3 +118,8 @@ pub trait Replayer {
 pub trait Asker {
     fn ask(&self, block: &[u8], bound: u32, clauses: &[Clause], schedule: &mut [u8]) -> Asked;
 }
+
+/// Replays a schedule and says why each processor's oldest queued action waits then, a byte each.
+pub trait Waiter {
+    fn why(&self, block: &[u8], schedule: &[u8], causes: &mut [u8]) -> Replayed;
+}

@@ -12,8 +12,9 @@ mod outcome;
 mod reason;
 mod refusal;
 mod schedule;
+mod wait;
 
-pub use calls::{Asked, Asker, Codec, Listed, Lister, Read, Replayed, Replayer, Written};
+pub use calls::{Asked, Asker, Codec, Listed, Lister, Read, Replayed, Replayer, Waiter, Written};
 pub use case::{Case, CaseBuilder, Processor};
 pub use clause::{clause, Clause, Named, CLAUSES};
 pub use instr::{ops, Instr};
@@ -22,6 +23,7 @@ pub use outcome::{Ending, Outcome, ENDING, RECORD};
 pub use reason::Reason;
 pub use refusal::Refusal;
 pub use schedule::{put_schedule, schedule, steps, Step, SCHEDULE};
+pub use wait::{Wait, WAITS};
 
 /// The sizes of document 01.
 pub const PROCESSORS: usize = 4;

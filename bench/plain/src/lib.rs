@@ -11,7 +11,7 @@ pub use machine::Machine;
 use std::collections::BTreeSet;
 
 use model::{put_schedule, Asked, Asker, Case, Clause, Codec, Listed, Lister, Outcome, Read, Reason};
-use model::{Refusal, Replayed, Replayer, Step, Written, CLAUSES, ENDING, RECORD, SCHEDULE, STEPS};
+use model::{Refusal, Replayed, Replayer, Step, Waiter, Written, CLAUSES, ENDING, RECORD, SCHEDULE, STEPS, WAITS};
 
 /// All outcomes within a bound.
 #[derive(Clone, Debug, Default)]
@@ -111,7 +111,7 @@ fn asked(block: &[u8], bound: u32, clauses: &[Clause], schedule: &mut [u8]) -> R
 impl Replayer for Plain {
     fn replay(&self, block: &[u8], schedule: &[u8], result: &mut [u8]) -> Replayed {
         result.fill(0);
-        let case = match replayable(block, schedule, result.len()) {
+        let case = match replayable(block, schedule, result.len() == ENDING) {
             Ok(case) => case,
             Err(refusal) => return Replayed::refused(refusal),
         };
@@ -122,12 +122,28 @@ impl Replayer for Plain {
     }
 }
 
-fn replayable(block: &[u8], schedule: &[u8], room: usize) -> Result<Case, Refusal> {
+impl Waiter for Plain {
+    fn why(&self, block: &[u8], schedule: &[u8], causes: &mut [u8]) -> Replayed {
+        causes.fill(0);
+        let case = match replayable(block, schedule, causes.len() == WAITS) {
+            Ok(case) => case,
+            Err(refusal) => return Replayed::refused(refusal),
+        };
+        let mut machine = Machine::new(&case);
+        let replayed = run(&mut machine, schedule);
+        for (p, cause) in causes.iter_mut().enumerate() {
+            *cause = machine.wait(p).byte();
+        }
+        replayed
+    }
+}
+
+fn replayable(block: &[u8], schedule: &[u8], room: bool) -> Result<Case, Refusal> {
     let case = bytes::case(block)?;
     if !schedule.len().is_multiple_of(4) || schedule.len() / 4 > STEPS {
         return Err(Reason::ScheduleLength.into());
     }
-    if room != ENDING {
+    if !room {
         return Err(Reason::ResultLength.into());
     }
     Ok(case)

@@ -1,4 +1,4 @@
-use model::{Case, Ending, Instr, Outcome, Reason, Step, ACTIONS, LOCATIONS, PROCESSORS, REGISTERS};
+use model::{Case, Ending, Instr, Outcome, Reason, Step, Wait, ACTIONS, LOCATIONS, PROCESSORS, REGISTERS};
 
 /// What a register name stands for.
 #[derive(Clone, Copy)]
@@ -114,6 +114,22 @@ impl<'a> Machine<'a> {
             (_, Reason::BadStep | Reason::PlaceUndefined | Reason::AtEnd | Reason::NoSuchAction) => None,
             (Step::Issue { processor }, _) => self.places[usize::from(processor)],
             (Step::Commit { action, .. }, _) => Some(self.actions[usize::from(action)].place),
+        }
+    }
+
+    /// Why processor p's oldest queued action waits: what bars its commits, tried with every source.
+    pub fn wait(&self, p: usize) -> Wait {
+        let Some((oldest, action)) = self.queue(p).next() else { return Wait::Nothing };
+        let tried = |source| self.check_commit(p, oldest, source);
+        if (0..LOCATIONS + ACTIONS).any(|source| tried(source).is_ok()) {
+            return Wait::MayCommit;
+        }
+        match (tried(0), action.instr) {
+            (Err(Reason::RegisterUndefined), _) => Wait::Undefined,
+            (Err(Reason::LockRange), _) => Wait::NoLocation,
+            (Err(Reason::LockState), Instr::Acquire { .. }) => Wait::HeldByAnother,
+            (Err(Reason::LockState), Instr::Release { .. }) => Wait::NotHeld,
+            (barred, instr) => panic!("{instr:?} waits without a cause of request 11: {barred:?}"),
         }
     }
 

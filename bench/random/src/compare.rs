@@ -1,14 +1,14 @@
 use std::env;
 use std::process::ExitCode;
 
-use model::{block, Asked, Asker, Codec, Listed, Lister, Read, Replayed, Replayer, Written, RECORD};
+use model::{block, Asked, Asker, Codec, Listed, Lister, Read, Replayed, Replayer, Waiter, Written, RECORD, WAITS};
 
 use crate::{AskInput, Inputs, ListInput, ReplayInput, Tally};
 
 /// An implementation of every call that is compared.
-pub trait Calls: Asker + Codec + Lister + Replayer {}
+pub trait Calls: Asker + Codec + Lister + Replayer + Waiter {}
 
-impl<T: Asker + Codec + Lister + Replayer> Calls for T {}
+impl<T: Asker + Codec + Lister + Replayer + Waiter> Calls for T {}
 
 /// Every length of a schedule or a buffer up to this is handed over.
 pub(crate) const LENGTHS: usize = 400;
@@ -39,6 +39,7 @@ pub enum Mismatch {
     List { input: ListInput, reference: Listed, other: Listed },
     Ask { input: AskInput, reference: Asked, other: Asked },
     Replay { input: ReplayInput, reference: Replayed, other: Replayed },
+    Why { input: ReplayInput, reference: Replayed, other: Replayed },
 }
 
 /// Hands the same random inputs to both, in buffers that are not zero before.
@@ -55,11 +56,15 @@ pub fn compare(plan: Plan, reference: &dyn Calls, other: &dyn Calls) -> Result<T
         comparison.list(inputs.to_list_into(room, &held))?;
     }
     for _ in 0..plan.replays {
-        comparison.replay(inputs.to_replay(&comparison.tally))?;
+        let input = inputs.to_replay(&comparison.tally);
+        comparison.why(&input, WAITS)?;
+        comparison.replay(input)?;
     }
     for length in 0..=LENGTHS {
         comparison.replay(inputs.to_replay_of(length, &comparison.tally))?;
-        comparison.replay(inputs.to_replay_into(length, &comparison.tally))?;
+        let input = inputs.to_replay_into(length, &comparison.tally);
+        comparison.why(&input, length)?;
+        comparison.replay(input)?;
     }
     for at in (0..SWEEPS).flat_map(|_| 0..block::LENGTH) {
         comparison.block(inputs.to_judge(&[at]))?;
@@ -129,6 +134,19 @@ impl Comparison<'_> {
             return Err(Box::new(Mismatch::Replay { input, reference, other }));
         }
         self.tally.replayed(&input, reference);
+        Ok(())
+    }
+
+    /// Asks why after the same schedule, in a buffer of a given length.
+    fn why(&mut self, input: &ReplayInput, room: usize) -> Result<(), Box<Mismatch>> {
+        let (mut ours, mut theirs) = (vec![0xA5; room], vec![0x5A; room]);
+        let reference = self.reference.why(&input.block, &input.schedule, &mut ours);
+        let other = self.other.why(&input.block, &input.schedule, &mut theirs);
+        if (reference, &ours) != (other, &theirs) {
+            let input = ReplayInput { room, ..input.clone() };
+            return Err(Box::new(Mismatch::Why { input, reference, other }));
+        }
+        self.tally.waited(&input.block, reference, &ours);
         Ok(())
     }
 }

@@ -1,7 +1,7 @@
 use std::collections::{BTreeMap, BTreeSet};
 use std::fmt;
 
-use model::{Asked, Listed, Read, Reason, Replayed};
+use model::{Asked, Listed, Read, Reason, Replayed, Wait};
 
 use crate::compare::{rooms, LENGTHS, RECORDS};
 use crate::{ListInput, ReplayInput};
@@ -24,6 +24,9 @@ pub struct Tally {
     replays: BTreeMap<u32, u32>,
     long: u32,
     whole: u32,
+    /// The states after which it was asked why, and how many processors waited for each cause.
+    states: u32,
+    waits: BTreeMap<Wait, u32>,
     /// The places that refused steps named.
     places: BTreeSet<u8>,
     /// The lengths of the record buffers, schedules and result buffers.
@@ -63,6 +66,15 @@ impl Tally {
         self.results.insert(input.room);
     }
 
+    pub(crate) fn waited(&mut self, block: &[u8], replayed: Replayed, causes: &[u8]) {
+        if replayed.code == 0 || replayed.code >= 20 {
+            self.states += 1;
+            for wait in causes[..block[0].into()].iter().filter_map(|&cause| Wait::from_byte(cause)) {
+                *self.waits.entry(wait).or_default() += 1;
+            }
+        }
+    }
+
     pub(crate) fn read(&mut self, block: &[u8], read: Read) {
         let (positions, times) = self.blocks.entry(read.code).or_default();
         positions.insert(read.position);
@@ -74,12 +86,18 @@ impl Tally {
         }
     }
 
+    /// The states after which it was asked why.
+    pub fn asked_why(&self) -> u32 {
+        self.states
+    }
+
     /// The replays that ended with a code.
     pub fn replays(&self, code: u32) -> u32 {
         self.replays.get(&code).copied().unwrap_or(0)
     }
 
-    /// A third of the lists with two or more outcomes, a third of the questions with yes, half the replays of 20 steps or more, every code and every place.
+    /// A third of the lists with two or more outcomes, a third of the questions with yes, half the replays of 20 steps or more, every code, every place
+    /// and every cause to wait.
     pub fn deep(&self) -> bool {
         let tallies = [&self.lists, &self.asks, &self.replays];
         let missing = |code: &u32| tallies.iter().all(|tally| !tally.contains_key(code));
@@ -91,6 +109,7 @@ impl Tally {
             && codes.filter(missing).count() == 0
             && (1..=7).chain([19]).all(|code| self.lists.contains_key(&code) && self.replays.contains_key(&code))
             && [19, 10, 12, 13].iter().all(|code| self.asks.contains_key(code))
+            && Wait::all().all(|wait| self.waits.contains_key(&wait))
             && (0..12).all(|place| self.places.contains(&place))
             && self.lengths()
             && self.positions()
@@ -128,6 +147,8 @@ impl fmt::Display for Tally {
         writeln!(f, "  by code{}", codes(&self.asks))?;
         writeln!(f, "replays {replays}, 20 steps or more {}, 96 steps {}", self.long, self.whole)?;
         writeln!(f, "  by code{}", codes(&self.replays))?;
+        let waits = self.waits.iter().map(|(wait, n)| format!("; {wait} {n}"));
+        writeln!(f, "states asked why {}{}", self.states, waits.collect::<String>())?;
         let blocks = self.blocks.iter().map(|(code, (positions, n))| format!(" {code}:{n}/{}", positions.len()));
         writeln!(f, "blocks by code, and the positions it stood at{}", blocks.collect::<String>())?;
         writeln!(f, "  19 at {} of 12 kinds of field; {} with a usual bound", self.unset.len(), self.usual)?;

@@ -9,13 +9,14 @@ mod order;
 mod replay;
 mod search;
 mod state;
+mod wait;
 
 pub use ask::{ask, Answer};
 pub use replay::Run;
 pub use search::{list, list_within, Listing};
 
 use model::{block, put_schedule, Asked, Asker, Case, Clause, Codec, Listed, Lister, Read, Reason, Refusal};
-use model::{Replayed, Replayer, Written, ENDING, RECORD, SCHEDULE, STEPS};
+use model::{Replayed, Replayer, Waiter, Written, ENDING, RECORD, SCHEDULE, STEPS, WAITS};
 
 /// The enumerator behind the bytes that the library takes.
 pub struct States;
@@ -83,26 +84,49 @@ fn asked(block: &[u8], bound: u32, clauses: &[Clause], room: usize) -> Result<An
 impl Replayer for States {
     fn replay(&self, block: &[u8], schedule: &[u8], result: &mut [u8]) -> Replayed {
         result.fill(0);
-        let case = match replayable(block, schedule, result.len()) {
+        let case = match replayable(block, schedule, result.len() == ENDING) {
             Ok(case) => case,
             Err(refusal) => return Replayed::refused(refusal),
         };
-        let mut run = Run::new(&case);
-        let mut steps = schedule.chunks_exact(4).map(|step| [step[0], step[1], step[2], step[3]]);
-        let stopped = steps.find_map(|step| run.take(step).err().map(|reason| (reason, step)));
+        let (run, replayed) = replayed(&case, schedule);
         result.copy_from_slice(&run.ending().bytes());
-        let place = stopped.and_then(|(reason, step)| run.place(step, reason));
-        Replayed { code: stopped.map_or(0, |(reason, _)| reason.code()), steps: run.steps(), place, position: 0 }
+        replayed
     }
 }
 
-fn replayable(block: &[u8], schedule: &[u8], room: usize) -> Result<Case, Refusal> {
+impl Waiter for States {
+    fn why(&self, block: &[u8], schedule: &[u8], causes: &mut [u8]) -> Replayed {
+        causes.fill(0);
+        let case = match replayable(block, schedule, causes.len() == WAITS) {
+            Ok(case) => case,
+            Err(refusal) => return Replayed::refused(refusal),
+        };
+        let (run, replayed) = replayed(&case, schedule);
+        for (cause, wait) in causes.iter_mut().zip(run.waits()) {
+            *cause = wait.byte();
+        }
+        replayed
+    }
+}
+
+fn replayable(block: &[u8], schedule: &[u8], room: bool) -> Result<Case, Refusal> {
     let case = block::read(block)?;
     if !schedule.len().is_multiple_of(4) || schedule.len() > 4 * STEPS {
         return Err(Reason::ScheduleLength.into());
     }
-    if room != ENDING {
+    if !room {
         return Err(Reason::ResultLength.into());
     }
     Ok(case)
+}
+
+/// Takes steps up to the first refused one.
+fn replayed<'a>(case: &'a Case, schedule: &[u8]) -> (Run<'a>, Replayed) {
+    let mut run = Run::new(case);
+    let mut steps = schedule.chunks_exact(4).map(|step| [step[0], step[1], step[2], step[3]]);
+    let stopped = steps.find_map(|step| run.take(step).err().map(|reason| (reason, step)));
+    let place = stopped.and_then(|(reason, step)| run.place(step, reason));
+    let code = stopped.map_or(0, |(reason, _)| reason.code());
+    let replayed = Replayed { code, steps: run.steps(), place, position: 0 };
+    (run, replayed)
 }

@@ -90,6 +90,10 @@ impl<'a> Run<'a> {
         &self.state
     }
 
+    pub(crate) fn case(&self) -> &Case {
+        self.case
+    }
+
     fn item(&self, number: u8) -> Option<Item> {
         match usize::from(number).checked_sub(LOCATIONS) {
             None => Some(Item::Initial(number)),

@@ -199,7 +199,7 @@ impl State {
     }
 
     fn acquired(&self, case: &Case, id: Id, location: u16) -> Result<State, Reason> {
-        let holder = self.holder(case, location)?;
+        let holder = self.lock(case, location)?;
         if holder.is_some_and(|p| p != id.0) {
             return Err(Reason::LockState);
         }
@@ -210,7 +210,7 @@ impl State {
     }
 
     fn released(&self, case: &Case, id: Id, location: u16) -> Result<State, Reason> {
-        if self.holder(case, location)? != Some(id.0) {
+        if self.lock(case, location)? != Some(id.0) {
             return Err(Reason::LockState);
         }
         let mut next = self.with_result(id, location);
@@ -218,11 +218,16 @@ impl State {
         Ok(next)
     }
 
-    fn holder(&self, case: &Case, location: u16) -> Result<Option<u8>, Reason> {
+    fn lock(&self, case: &Case, location: u16) -> Result<Option<u8>, Reason> {
         if location >= case.locations().into() {
             return Err(Reason::LockRange);
         }
-        Ok(self.holders[usize::from(location)])
+        Ok(self.holder(location))
+    }
+
+    /// The processor that holds a location.
+    pub fn holder(&self, location: u16) -> Option<u8> {
+        self.holders[usize::from(location)]
     }
 
     /// The committed releases of a location.
@@ -246,8 +251,21 @@ impl State {
         if earlier.any(|earlier| holds_back(earlier, action)) {
             return Err(Reason::HeldBack);
         }
-        let inputs = action.instr.inputs().zip(action.inputs);
-        inputs.map(|(k, name)| self.value(case, id.0, k, name).ok_or(Reason::RegisterUndefined)).collect()
+        self.inputs(case, id).map(|value| value.ok_or(Reason::RegisterUndefined)).collect()
+    }
+
+    /// The values of the registers that an action reads; none where undefined.
+    pub fn inputs<'a>(&'a self, case: &'a Case, id: Id) -> impl Iterator<Item = Option<u16>> + 'a {
+        let action = self.action(id);
+        action.instr.inputs().zip(action.inputs).map(move |(k, name)| self.value(case, id.0, k, name))
+    }
+
+    /// Whether some commit of a queued action is accepted.
+    pub fn may_commit(&self, case: &Case, id: Id) -> bool {
+        match self.action(id).instr {
+            Instr::Read { .. } => self.readable(case, id).is_ok_and(|items| !items.is_empty()),
+            _ => self.committed(case, id).is_ok(),
+        }
     }
 
     /// Every accepted step, with the state after it. A read has one for each item it may take.

@@ -20,6 +20,18 @@ extern "C" {
         position: *mut usize,
     ) -> u32;
 
+    fn womm_why(
+        block: *const u8,
+        block_length: usize,
+        schedule: *const u8,
+        schedule_length: usize,
+        causes: *mut u8,
+        causes_length: usize,
+        steps: *mut usize,
+        place: *mut usize,
+        position: *mut usize,
+    ) -> u32;
+
     fn womm_outcomes(
         block: *const u8,
         block_length: usize,
@@ -52,7 +64,7 @@ pub struct AskNumbers {
     pub position: usize,
 }
 
-/// The numbers that a replay hands back.
+/// The numbers that a replay hands back, and the question why.
 pub struct ReplayNumbers<'a> {
     pub steps: &'a mut usize,
     pub place: &'a mut usize,
@@ -86,6 +98,15 @@ pub fn replay(block: &[u8], schedule: &[u8], result: &mut [u8], numbers: ReplayN
     let (bytes, length) = (result.as_mut_ptr(), result.len());
     // SAFETY: as above; `result` and the numbers are lent to this call alone.
     unsafe { womm_replay(block.as_ptr(), block.len(), given, given_length, bytes, length, steps, place, position) }
+}
+
+/// Replays a schedule and says what each processor waits for; gives the code.
+pub fn why(block: &[u8], schedule: &[u8], causes: &mut [u8], numbers: ReplayNumbers) -> u32 {
+    let ReplayNumbers { steps, place, position } = numbers;
+    let (given, given_length) = (schedule.as_ptr(), schedule.len());
+    let (bytes, length) = (causes.as_mut_ptr(), causes.len());
+    // SAFETY: as above; `causes` and the numbers are lent to this call alone.
+    unsafe { womm_why(block.as_ptr(), block.len(), given, given_length, bytes, length, steps, place, position) }
 }
 
 /// Lists outcomes; gives the code.

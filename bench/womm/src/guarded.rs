@@ -1,6 +1,6 @@
 use std::hint::black_box;
 
-use model::{clause, Asked, Asker, Clause, Codec, Listed, Lister, Read, Replayed, Replayer, Written};
+use model::{clause, Asked, Asker, Clause, Codec, Listed, Lister, Read, Replayed, Replayer, Waiter, Written};
 
 use crate::ffi::{self, ListNumbers, ReplayNumbers};
 use crate::{asked, mark, place_given, short};
@@ -91,16 +91,32 @@ impl Lister for Guarded {
 
 impl Replayer for Guarded {
     fn replay(&self, block: &[u8], schedule: &[u8], result: &mut [u8]) -> Replayed {
-        let (held, steps_held, mut lent) = (Fenced::new(block), Fenced::new(schedule), Fenced::new(result));
-        let [mut steps, mut place, mut position] = std::array::from_fn(|_| FencedNumber::new());
-        let given = ReplayNumbers { steps: steps.lent(), place: place.lent(), position: position.lent() };
-        let code = ffi::replay(held.inner(), steps_held.inner(), lent.inner_mut(), given);
-        assert_eq!(black_box(&held).opened("block"), block, "the block was written");
-        assert_eq!(black_box(&steps_held).opened("schedule"), schedule, "the schedule was written");
-        result.copy_from_slice(black_box(&lent).opened("result"));
-        let (steps, position) = (short(steps.opened("steps")), short(position.opened("position")));
-        Replayed { code, steps, place: place_given(place.opened("place")), position }
+        replayed(ffi::replay, block, schedule, result)
     }
+}
+
+impl Waiter for Guarded {
+    fn why(&self, block: &[u8], schedule: &[u8], causes: &mut [u8]) -> Replayed {
+        replayed(ffi::why, block, schedule, causes)
+    }
+}
+
+/// Makes one of the calls that take a schedule and hand back a replay's numbers.
+fn replayed(
+    call: fn(&[u8], &[u8], &mut [u8], ReplayNumbers) -> u32,
+    block: &[u8],
+    schedule: &[u8],
+    filled: &mut [u8],
+) -> Replayed {
+    let (held, steps_held, mut lent) = (Fenced::new(block), Fenced::new(schedule), Fenced::new(filled));
+    let [mut steps, mut place, mut position] = std::array::from_fn(|_| FencedNumber::new());
+    let given = ReplayNumbers { steps: steps.lent(), place: place.lent(), position: position.lent() };
+    let code = call(held.inner(), steps_held.inner(), lent.inner_mut(), given);
+    assert_eq!(black_box(&held).opened("block"), block, "the block was written");
+    assert_eq!(black_box(&steps_held).opened("schedule"), schedule, "the schedule was written");
+    filled.copy_from_slice(black_box(&lent).opened("buffer"));
+    let (steps, position) = (short(steps.opened("steps")), short(position.opened("position")));
+    Replayed { code, steps, place: place_given(place.opened("place")), position }
 }
 
 impl Asker for Guarded {

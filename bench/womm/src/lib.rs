@@ -8,11 +8,11 @@ mod stop;
 
 pub use guarded::Guarded;
 pub use model::{clause, ops, Asked, Asker, Case, CaseBuilder, Clause, Codec, Ending, Instr, Listed, Lister};
-pub use model::{Outcome, Read, Reason, Refusal, Replayed, Replayer, Step, Written};
+pub use model::{Outcome, Read, Reason, Refusal, Replayed, Replayer, Step, Wait, Waiter, Written};
 pub use stop::{Place, Stop};
 
 use ffi::{AskNumbers, ListNumbers, ReplayNumbers};
-use model::{schedule, steps, ENDING, RECORD, SCHEDULE};
+use model::{schedule, steps, ENDING, RECORD, SCHEDULE, WAITS};
 
 /// The library over plain bytes.
 pub struct Library;
@@ -42,11 +42,21 @@ impl Lister for Library {
 
 impl Replayer for Library {
     fn replay(&self, block: &[u8], schedule: &[u8], result: &mut [u8]) -> Replayed {
-        let [mut steps, mut place, mut position] = [0; 3];
-        let given = ReplayNumbers { steps: &mut steps, place: &mut place, position: &mut position };
-        let code = ffi::replay(block, schedule, result, given);
-        Replayed { code, steps: short(steps), place: place_given(place), position: short(position) }
+        replayed(|given| ffi::replay(block, schedule, result, given))
     }
+}
+
+impl Waiter for Library {
+    fn why(&self, block: &[u8], schedule: &[u8], causes: &mut [u8]) -> Replayed {
+        replayed(|given| ffi::why(block, schedule, causes, given))
+    }
+}
+
+/// Makes one of the calls that hand back a replay's numbers.
+fn replayed(call: impl FnOnce(ReplayNumbers) -> u32) -> Replayed {
+    let [mut steps, mut place, mut position] = [0; 3];
+    let code = call(ReplayNumbers { steps: &mut steps, place: &mut place, position: &mut position });
+    Replayed { code, steps: short(steps), place: place_given(place), position: short(position) }
 }
 
 impl Asker for Library {
@@ -119,17 +129,40 @@ pub fn outcomes(case: &Case, bound: u32, room: usize) -> Result<Listing, Refusal
     Ok(Listing { outcomes: records.map(read).collect(), cut: listed.cut })
 }
 
-/// Replays a schedule. A step that is refused stops it; codes 1 to 9 refuse it whole.
+/// Replays a schedule. A step that is refused stops it; codes 1 to 9 and 19 refuse it whole.
 pub fn replay(case: &Case, steps: &[Step]) -> Result<Replay, Refusal> {
     let mut result = [0; ENDING];
     let replayed = Library.replay(&case.block(), &schedule(steps), &mut result);
+    let stopped = stop(case, steps, replayed)?;
+    Ok(Replay { steps: replayed.steps, stopped, ending: Ending::read(&result) })
+}
+
+/// What each processor waits for after a schedule, and how the schedule went.
+#[derive(Clone, Debug, PartialEq, Eq)]
+pub struct Waiting {
+    pub steps: u32,
+    pub stopped: Option<Stop>,
+    /// For each present processor why its oldest queued action waits.
+    pub waits: Vec<Wait>,
+}
+
+/// Says why each processor waits after a schedule, or after its steps before a refused one.
+pub fn why(case: &Case, steps: &[Step]) -> Result<Waiting, Refusal> {
+    let mut causes = [0; WAITS];
+    let replayed = Library.why(&case.block(), &schedule(steps), &mut causes);
+    let stopped = stop(case, steps, replayed)?;
+    let wait = |&byte: &u8| Wait::from_byte(byte).expect("a cause of request 11");
+    Ok(Waiting { steps: replayed.steps, stopped, waits: causes[..case.processors().len()].iter().map(wait).collect() })
+}
+
+/// The step that stopped a replay, if one did; or the refusal of the whole.
+fn stop(case: &Case, steps: &[Step], replayed: Replayed) -> Result<Option<Stop>, Refusal> {
     let stopped = reason(replayed.code);
     if stopped.is_some_and(|reason| reason < Reason::BadStep) {
         accepted(replayed.code, replayed.position)?;
     }
     let at = replayed.place.map(|place| Place::of(case, steps[replayed.steps as usize], place));
-    let stopped = stopped.map(|reason| Stop { reason, at });
-    Ok(Replay { steps: replayed.steps, stopped, ending: Ending::read(&result) })
+    Ok(stopped.map(|reason| Stop { reason, at }))
 }
 
 /// Nothing with code 0, else the refusal at a position.

@@ -1,6 +1,6 @@
 //! The typed calls.
 
-use womm::{clause, Answer, Reason, Refusal, Step, Stop};
+use womm::{clause, Answer, Reason, Refusal, Step, Stop, Wait};
 
 #[test]
 fn a_typed_replay() {
@@ -22,6 +22,25 @@ fn a_stop_names_its_instruction() {
     let stop = replay.stopped.unwrap();
     assert_eq!((replay.steps, stop.reason), (3, Reason::HeldBack));
     assert_eq!(stop.to_string(), "held back by the table: processor 1, instruction 2, read");
+}
+
+#[test]
+fn why_a_processor_waits() {
+    let issue = |processor| Step::Issue { processor };
+    let commit = |processor, action| Step::Commit { processor, action, source: 0 };
+    let case = shapes::locked_message().build().unwrap();
+    let waiting = womm::why(&case, &[issue(0), commit(0, 0), issue(1)]).unwrap();
+    assert_eq!(waiting.waits, [Wait::Nothing, Wait::HeldByAnother]);
+    assert_eq!(waiting.waits[1].to_string(), "acquire of a location held by another");
+    let waiting = womm::why(&case, &[issue(0), issue(1), commit(1, 0)]).unwrap();
+    assert_eq!((waiting.steps, waiting.stopped.map(|stop| stop.reason)), (2, Some(Reason::NoSuchAction)));
+    assert_eq!(waiting.waits, [Wait::MayCommit; 2]);
+    let alone = |program: &[womm::Instr]| shapes::usual(1, &[program]).build().unwrap();
+    let wait = |program: &[womm::Instr]| womm::why(&alone(program), &[issue(0)]).unwrap().waits;
+    assert_eq!(wait(&[womm::ops::acquire(1)]), [Wait::NoLocation]);
+    assert_eq!(wait(&[womm::ops::release(0)]), [Wait::NotHeld]);
+    assert_eq!(wait(&[womm::ops::add(2, 2, 2)]), [Wait::Undefined]);
+    assert_eq!(womm::why(&case, &[issue(0); 97]), Err(Reason::ScheduleLength.into()));
 }
 
 #[test]

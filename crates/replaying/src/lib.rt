@@ -36,7 +36,7 @@ pub struct Walked {
 }
 
 // Takes the steps of a schedule until one is refused.
-fn walk(c: Case, schedule: &[u8]) -> Walked
+pub fn walk(c: Case, schedule: &[u8]) -> Walked
     requires { ⌜ Fit c × (length (now schedule) % 4 ≡ 0) ⌝ }
     ensures { λ r. ⌜ IsWalk c (stepsOf (now (schedule .entry))) r ⌝ }
 {
@@ -164,9 +164,9 @@ fn show(c: Case, m: Machine, result: &mut [u8])
     fill(c, registers, places, acts, issued, result);
 }
 
-// The first of the codes of a block, 8 and 9: code is the block's own.
-fn refusal(code: u8, schedule: usize, size: usize) -> u8
-    ensures { λ r. ⌜ r ≡ cond (eqb code 0) (firstOf (lengthRefusals schedule size)) code ⌝ }
+// The first of the codes of a block, 8 and 9: code is the block's own, wanted the size that the buffer should have.
+pub fn refusal(code: u8, schedule: usize, size: usize, wanted: usize) -> u8
+    ensures { λ r. ⌜ r ≡ cond (eqb code 0) (firstOf (lengthRefusals wanted schedule size)) code ⌝ }
 {
     if code != 0 {
         return code;
@@ -177,7 +177,7 @@ fn refusal(code: u8, schedule: usize, size: usize) -> u8
     if 384 < schedule {
         return 8;
     }
-    if size != 104 {
+    if size != wanted {
         return 9;
     }
     0
@@ -188,7 +188,7 @@ pub fn replay(block: &[u8], schedule: &[u8], result: &mut [u8]) -> Replayed
     ensures { λ r. ⌜ IsReplay (now (block .entry)) (now (schedule .entry)) (length (now (result .entry))) r (now (result .exit)) ⌝ }
 {
     let read = cases::read_case(block);
-    let code = refusal(read.code, schedule.len(), result.len());
+    let code = refusal(read.code, schedule.len(), result.len(), 104);
     if code != 0 {
         records::clear(result);
         return Replayed {

@@ -2,7 +2,7 @@
 -- Assumes nothing.
 use mathlib.Core.Path.{_≡_, refl, sym, subst}
 use mathlib.Core.Logic.{_⊎_, inl, inr}
-use mathlib.Core.Bool.{Bool, true, _&&_, _||_, false}
+use mathlib.Core.Bool.{Bool, true, false, _&&_, _||_, false≢true}
 use Prim.Native.Nat.{ℕ, _<_}
 use lib.Dec.{eqb}
 use borrow.Author.Tests.{eqb-true, eq-eqb}
@@ -133,3 +133,13 @@ pub joinedIf-transitive : (b : Bool) (R : Order) (i n : ℕ) (P : ℕ → Bool) 
 unfolding joinedIf
 joinedIf-transitive true R i n P t = joined-transitive R i n P t
 joinedIf-transitive false R i n P t = t
+
+pub joinedIf-keeps : (x : Bool) (R : Order) (i n : ℕ) (P : ℕ → Bool) (a b : ℕ) → R a b ≡ true → joinedIf x R i n P a b ≡ true
+unfolding joinedIf
+joinedIf-keeps true R i n P a b h = joined-keeps R i n P a b h
+joinedIf-keeps false R i n P a b h = h
+
+pub joinedIf-adds : (x : Bool) (R : Order) (i n : ℕ) (P : ℕ → Bool) (a : ℕ) → x ≡ true → a < n → P a ≡ true → joinedIf x R i n P a i ≡ true
+unfolding joinedIf
+joinedIf-adds true R i n P a e h k = joined-adds R i n P a h k
+joinedIf-adds false R i n P a e h k = absurd (false≢true e)

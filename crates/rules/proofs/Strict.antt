@@ -5,7 +5,7 @@ use mathlib.Core.Logic.{_⊎_, inl, inr, ⊎-elim}
 use mathlib.Core.Bool.{Bool, true, false, _&&_, false≢true}
 use mathlib.Core.List.{List}
 use mathlib.Core.Option.{Option, none, some}
-use Prim.Native.Nat.{ℕ, _+_, _≤_, _<_}
+use Prim.Native.Nat.{ℕ, _+_, _-_, _≤_, _<_}
 use native.Mathlib.Omega.{arith}
 use native.Mathlib.Decide.{decLt}
 use lib.Dec.{eqb}
@@ -318,3 +318,20 @@ module _ (c : Case) (ts : List Step) (e : State) (w : Leads (womm c) (initial c)
 
   pub order-asymmetric : (l a b : ℕ) → e .orders l a b ≡ true → e .orders l b a ≡ true → ⊥
   order-asymmetric l a b x y = order-irreflexive l a (order-transitive l a b a x y)
+
+  -- what stands before an action that no queued one of its processor comes before is committed
+  pub before-oldest : (l j k : ℕ) → ((i : ℕ) → i < k → e .actions i .proc ≡ e .actions k .proc → isNone (e .actions i .result) ≡ false) → e .orders l (8 + j) (8 + k) ≡ true → isNone (e .actions j .result) ≡ false
+  before-oldest l j k first h =
+      let r = strict .edges l (8 + j) (8 + k) h in
+      let y = r .before j refl in
+      let same : r .to ≡ k = omega (arith, r .is-to) in
+      either (owner e j) (owner e (r .to)) (λ q. first j (omega (arith, y .mine q)) (q ∙ ap (owner e) same)) (λ q. freed (y .other q))
+    where
+      freed : Freed e j → Done e j
+      freed f = either j (f .at) (λ q. ap (λ (z : ℕ). isNone (e .actions z .result)) q ∙ f .done) (λ n. strict .closed j (f .at) (omega (arith, f .late)) (f .low) (sym (f .own)) (f .frees) (f .done))
+
+  -- what stands before an item is an initial write or issued
+  pub order-low : (l a b : ℕ) → e .orders l a b ≡ true → a < 8 + e .count
+  order-low l a b h =
+      let y = strict .edges l a b h in
+      elim (decLt a 8) [ yes q ↦ omega arith | no q ↦ let at : a ≡ 8 + (a - 8) = omega arith in omega (arith, y .before (a - 8) at .there) ]

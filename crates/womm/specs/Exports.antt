@@ -5,7 +5,8 @@ use mathlib.Core.List.{List}
 use Prim.Native.Nat.{ℕ}
 use Rattle.cases.specs.Block.{readOf, sealFault, sealed}
 use Rattle.runs.specs.Listing.{Listed}
-use Rattle.replaying.specs.Answer.{replayed}
+use Rattle.replaying.specs.Answer.{Question, result, asked}
+use Rattle.waiting.specs.Why.{waits}
 use Rattle.listing.specs.Outcomes.{IsOutcomes}
 
 -- A mark as a number: 1 for yes, 0 for no.
@@ -24,14 +25,21 @@ pub record WrittenAs (block : List ℕ) (r at : ℕ) (out : List ℕ) : Type 0 w
   pub position : at ≡ sealFault block .position
   pub bytes : out ≡ sealed block
 
--- A schedule is replayed, with a result buffer of this size: the code r, n steps taken, the place i that the code names, the block's position at,
--- the result's bytes out.
-pub record ReplayedAs (block schedule : List ℕ) (size r n i at : ℕ) (out : List ℕ) : Type 0 where
-  pub code : r ≡ replayed block schedule size .code
-  pub steps : n ≡ replayed block schedule size .steps
-  pub place : i ≡ replayed block schedule size .place
+-- A question is asked about a schedule, with a buffer of this size: the code r, n steps taken, the place i that the code names, the block's
+-- position at, the buffer's bytes out.
+pub record AnsweredAs (Q : Question) (block schedule : List ℕ) (size r n i at : ℕ) (out : List ℕ) : Type 0 where
+  pub code : r ≡ asked Q block schedule size .code
+  pub steps : n ≡ asked Q block schedule size .steps
+  pub place : i ≡ asked Q block schedule size .place
   pub position : at ≡ readOf block .position
-  pub bytes : out ≡ replayed block schedule size .bytes
+  pub bytes : out ≡ asked Q block schedule size .bytes
+
+-- A schedule is replayed; the processors are asked why they wait.
+abbrev pub ReplayedAs : List ℕ → List ℕ → ℕ → ℕ → ℕ → ℕ → ℕ → List ℕ → Type 0
+ReplayedAs = AnsweredAs result
+
+abbrev pub WhyAs : List ℕ → List ℕ → ℕ → ℕ → ℕ → ℕ → ℕ → List ℕ → Type 0
+WhyAs = AnsweredAs waits
 
 -- The outcomes are listed, into a buffer of this size: the code r, the count n, the cut mark x, the block's position at, the buffer's bytes out.
 pub record ListedAs (block : List ℕ) (bound size r n x at : ℕ) (out : List ℕ) : Type 0 where

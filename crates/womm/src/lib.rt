@@ -3,7 +3,7 @@ use clauses::Asked;
 use clauses::Clause;
 ghost use lib.ListN.{length};
 ghost use Rattle.clauses.specs.Wanted.{clausesOf};
-ghost use Rattle.womm.specs.Exports.{ReadAs, WrittenAs, ReplayedAs, ListedAs};
+ghost use Rattle.womm.specs.Exports.{ReadAs, WrittenAs, ReplayedAs, WhyAs, ListedAs};
 ghost use Rattle.womm.specs.Asking.{AskedAs};
 
 // Reads a block: 0 where it holds a case, else the first of codes 1 to 7 and 19; the position that the code carries; and 1 where an accepted block has
@@ -47,6 +47,27 @@ pub extern "C" fn womm_replay(
     *place = replayed.place as usize;
     *position = replayed.position;
     replayed.code as u32
+}
+
+// Says why each processor waits after a schedule: the code, the steps taken, the place of the instruction that the code names (else 255), the
+// block's position, and a byte for each of the four processors: 0 nothing is queued, 1 its oldest queued action may commit, 2 that reads an
+// undefined register, 3 is an acquire or a release of a location not below M, 4 an acquire of one held by another, 5 a release of one it does not hold.
+#[no_mangle]
+pub extern "C" fn womm_why(
+    block: &[u8],
+    schedule: &[u8],
+    causes: &mut [u8],
+    steps: &mut usize,
+    place: &mut usize,
+    position: &mut usize,
+) -> u32
+    ensures { λ r. ⌜ WhyAs (now (block .entry)) (now (schedule .entry)) (length (now (causes .entry))) r (now (steps .exit)) (now (place .exit)) (now (position .exit)) (now (causes .exit)) ⌝ }
+{
+    let answer = waiting::why(block, schedule, causes);
+    *steps = answer.steps;
+    *place = answer.place as usize;
+    *position = answer.position;
+    answer.code as u32
 }
 
 // Lists the outcomes within a bound: the code, the count, the cut mark (1 yes, 0 no), the block's position, and the records' bytes.

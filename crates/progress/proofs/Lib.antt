@@ -1,0 +1,5 @@
+pub mod Last
+pub mod Sizes
+pub mod Rooted
+pub mod Progress
+pub mod Samples

@@ -1,0 +1,1 @@
+// Nobody waits without cause: definitions and laws, no code.
