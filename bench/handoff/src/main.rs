@@ -1,77 +1,67 @@
-//! The boot hand-off: which results it can have, the bad one step by step, and the same inside a lock.
-//! Ends with a failure if an answer is not document 01's.
+//! `handoff` tells the story of the lost baseline. `handoff SENDING RECEIVING` judges a pair of plans, such as
+//! `"write 0, write 3"` and `"take, read 3, read 0, free"`, or `"0 3"` and `"4 3 0 5"`: it ends with 0 if the hand-off is
+//! safe, 1 if the receiver can find an old word, 3 if no run finishes, and 2 if a plan is none.
 #![forbid(unsafe_code)]
 
+mod plan;
+mod story;
 mod words;
 
+use std::env;
 use std::process::ExitCode;
 
-use model::Case;
-use womm::{clause, Answer, Listing};
+use womm::{Act, Handoff, Step};
+use words::{Side, NUMBERED};
 
-/// What the receiver reads as flag and as length when the baseline is lost.
-const LOST: [u16; 2] = [1, 0];
+/// How it ends, beside success.
+const STALE: u8 = 1;
+const BAD_PLAN: u8 = 2;
+const STUCK: u8 = 3;
 
 fn main() -> ExitCode {
-    match tell() {
-        Ok(()) => ExitCode::SUCCESS,
-        Err(wrong) => {
-            eprintln!("handoff: {wrong}");
-            ExitCode::FAILURE
+    let arguments: Vec<String> = env::args().skip(1).collect();
+    let (told, failed) = match arguments.as_slice() {
+        [] => (story::tell().map(|()| 0), 1),
+        [sending, receiving] => (judge(sending, receiving), BAD_PLAN),
+        _ => (Err("give no plan, or two: what the sender does, and what the receiver does".to_string()), BAD_PLAN),
+    };
+    let status = told.unwrap_or_else(|wrong| {
+        eprintln!("handoff: {wrong}");
+        failed
+    });
+    ExitCode::from(status)
+}
+
+/// Prints what a pair of plans can come to; the status to end with.
+fn judge(sending: &str, receiving: &str) -> Result<u8, String> {
+    let sends = plan::parse(Side::Sender, sending).map_err(|wrong| format!("sending plan: {wrong}"))?;
+    let receives = plan::parse(Side::Receiver, receiving).map_err(|wrong| format!("receiving plan: {wrong}"))?;
+    let answer = womm::handoff(&sends, &receives).map_err(|_| plan::complaint(&sends, &receives))?;
+    for line in words::table(&sends, &receives, &NUMBERED) {
+        println!("    {line}");
+    }
+    println!();
+    Ok(match answer {
+        Handoff::Safe => {
+            println!("SAFE: no finished run sees the flag raised and finds a word that the sender writes as it was before.");
+            0
         }
-    }
+        Handoff::Stale(schedule) => {
+            stale([&sends, &receives], &schedule);
+            STALE
+        }
+        Handoff::Stuck => {
+            println!("STUCK: no run finishes. A core waits for the lock for ever, or frees one that it does not hold.");
+            STUCK
+        }
+    })
 }
 
-fn tell() -> Result<(), String> {
-    let open = shapes::message().build().map_err(|refusal| refusal.to_string())?;
-    let locked = shapes::locked_message().build().map_err(|refusal| refusal.to_string())?;
-    println!("The boot hand-off, on hardware that reorders. Both words start empty.");
-    println!();
-    println!("    sender (core 0)        receiver (core 1)");
-    println!("    1. write the length    1. read the flag");
-    println!("    2. raise the flag      2. read the length");
-    println!();
-    println!("Without a lock it can end in these ways and no others (the proved list; no run is left out):");
-    list(&open, 8, &[[0, 0], [0, 1], LOST, [1, 1]])?;
-    println!();
-    lost_baseline(&open)?;
-    println!();
-    println!("With a lock, taken before and freed after by both cores (the proved list; no run is left out):");
-    list(&locked, 16, &[[0, 0], [1, 1]])?;
-    println!("The lost baseline cannot happen.");
-    Ok(())
-}
-
-/// Prints a case's results, which must be the expected ones with nothing cut.
-fn list(case: &Case, bound: u32, expected: &[[u16; 2]]) -> Result<(), String> {
-    let Listing { outcomes, cut } = womm::outcomes(case, bound, 16).map_err(|refusal| format!("refused: {refusal}"))?;
-    for outcome in &outcomes {
-        println!("    {}", words::result(outcome));
-    }
-    if cut || !outcomes.iter().map(words::seen).eq(expected.iter().map(|row| row.map(Some))) {
-        return Err(format!("these are not document 01's results for bound {bound}"));
-    }
-    Ok(())
-}
-
-/// Prints the lowest schedule that loses the baseline, and what its replay leaves.
-fn lost_baseline(case: &Case) -> Result<(), String> {
-    let lost = [clause(1, 2).is(LOST[0]), clause(1, 3).is(LOST[1])];
-    let answer = womm::ask(case, 8, &lost).map_err(|refusal| format!("refused: {refusal}"))?;
-    let Answer::Yes(schedule) = answer else { return Err("no schedule loses the baseline".to_string()) };
-    println!("One way to the lost baseline, step by step:");
-    for (number, line) in (1..).zip(words::steps(&schedule)) {
+/// Prints the run that finds an old word.
+fn stale(plans: [&[Act]; 2], schedule: &[Step]) {
+    println!("STALE: the receiver can see the flag raised and still find a word as it was before. Step by step (of all such");
+    println!("schedules the lowest in byte order):");
+    for (number, line) in (1..).zip(words::steps(plans, schedule, &NUMBERED)) {
         println!("    {number}. {line}");
     }
-    let replay = womm::replay(case, &schedule).map_err(|refusal| format!("refused: {refusal}"))?;
-    let whole = replay.stopped.is_none() && replay.ending.queues == [0; 4] && replay.ending.places[..2] == [Some(2); 2];
-    if !whole || words::seen(&replay.ending.outcome) != LOST.map(Some) {
-        return Err("the library's replay does not confirm this schedule".to_string());
-    }
-    println!(
-        "Of all such schedules it is the lowest in byte order. Replayed, all {} steps are allowed, both cores are",
-        replay.steps
-    );
-    println!("done, and the receiver holds: {}.", words::result(&replay.ending.outcome));
-    Ok(())
 }

@@ -1,7 +1,7 @@
 //! The library's calls over plain bytes, and what they answer. With every code that names no byte of the block the
 //! position is 0.
 
-use crate::{Clause, Refusal};
+use crate::{Clause, Reason, Refusal};
 
 /// The answer of reading a block.
 #[derive(Clone, Copy, Debug, PartialEq, Eq)]
@@ -47,6 +47,34 @@ pub struct Asked {
     pub length: u32,
     pub cut: bool,
     pub position: u32,
+}
+
+/// What a hand-off can come to, by the number that stands for it.
+#[derive(Clone, Copy, Debug, PartialEq, Eq, PartialOrd, Ord, Hash)]
+pub enum Verdict {
+    Safe,
+    Stale,
+    Stuck,
+}
+
+/// The answer for a pair of plans; with stale, its lowest schedule stands in the lent buffer.
+#[derive(Clone, Copy, Debug, PartialEq, Eq)]
+pub struct HandedOff {
+    pub code: u32,
+    pub verdict: Verdict,
+    /// The schedule's bytes.
+    pub length: u32,
+}
+
+impl HandedOff {
+    /// Refused: the verdict is the first number, and says nothing.
+    pub fn refused(reason: Reason) -> HandedOff {
+        HandedOff { code: reason.code(), verdict: Verdict::Safe, length: 0 }
+    }
+
+    pub fn answered(verdict: Verdict, length: usize) -> HandedOff {
+        HandedOff { code: 0, verdict, length: length as u32 }
+    }
 }
 
 impl Read {
@@ -122,4 +150,9 @@ pub trait Asker {
 /// Replays a schedule and says why each processor's oldest queued action waits then, a byte each.
 pub trait Waiter {
     fn why(&self, block: &[u8], schedule: &[u8], causes: &mut [u8]) -> Replayed;
+}
+
+/// Judges a pair of plans.
+pub trait Planner {
+    fn handoff(&self, sending: &[u8], receiving: &[u8], schedule: &mut [u8]) -> HandedOff;
 }

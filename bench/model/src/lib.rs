@@ -9,17 +9,19 @@ mod faults;
 mod field;
 mod instr;
 mod outcome;
+mod plan;
 mod reason;
 mod refusal;
 mod schedule;
 mod wait;
 
-pub use calls::{Asked, Asker, Codec, Listed, Lister, Read, Replayed, Replayer, Waiter, Written};
+pub use calls::{Asked, Asker, Codec, HandedOff, Listed, Lister, Planner, Read, Replayed, Replayer, Verdict, Waiter, Written};
 pub use case::{Case, CaseBuilder, Processor};
 pub use clause::{clause, Clause, Named, CLAUSES};
 pub use instr::{ops, Instr};
 
 pub use outcome::{Ending, Outcome, ENDING, RECORD};
+pub use plan::{Act, Plans, ACTS, READS, READY};
 pub use reason::Reason;
 pub use refusal::Refusal;
 pub use schedule::{put_schedule, schedule, steps, Step, SCHEDULE};

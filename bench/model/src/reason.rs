@@ -1,6 +1,6 @@
 use std::fmt;
 
-/// The refusals of documents 01 and 02, in the order they are tried.
+/// The refusals of documents 01 and 02, in the order they are tried; a hand-off tries `Plan` before `ScheduleRoom`.
 #[derive(Clone, Copy, Debug, PartialEq, Eq, PartialOrd, Ord, Hash)]
 pub enum Reason {
     BlockLength,
@@ -17,6 +17,7 @@ pub enum Reason {
     Room,
     Clauses,
     ScheduleRoom,
+    Plan,
     BadStep,
     PlaceUndefined,
     AtEnd,
@@ -35,7 +36,7 @@ pub enum Reason {
 use Reason::*;
 
 /// Each refusal with its code and its document's words, in the order they are tried.
-const TABLE: [(Reason, u32, &str); 27] = [
+const TABLE: [(Reason, u32, &str); 28] = [
     (BlockLength, 1, "length is not 512"),
     (Check, 2, "check"),
     (Sizes, 3, "bytes 0 to 3"),
@@ -50,6 +51,7 @@ const TABLE: [(Reason, u32, &str); 27] = [
     (Room, 11, "more distinct outcomes than length ÷ 96, rounded down"),
     (Clauses, 12, "over 8 clauses, an absent processor or a register over 7"),
     (ScheduleRoom, 13, "schedule buffer not 384 bytes"),
+    (Plan, 15, "a plan that is not one of a hand-off"),
     (BadStep, 20, "kind over 1, processor not below P, or an issue with byte 2 or 3 not zero"),
     (PlaceUndefined, 21, "place counter undefined"),
     (AtEnd, 22, "at the end"),
@@ -111,7 +113,7 @@ mod tests {
             assert_eq!(Reason::from_code(*code), Some(*refusal));
         }
         let codes: Vec<u32> = Reason::all().map(Reason::code).collect();
-        assert_eq!(codes, (1..=7).chain([19]).chain(8..=13).chain(20..=32).collect::<Vec<u32>>());
+        assert_eq!(codes, (1..=7).chain([19]).chain(8..=13).chain([15]).chain(20..=32).collect::<Vec<u32>>());
         assert_eq!(Reason::from_code(0), None);
     }
 }

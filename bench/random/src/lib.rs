@@ -4,10 +4,12 @@
 mod cases;
 mod compare;
 mod inputs;
+mod plans;
 mod rng;
 mod tally;
 
 pub use compare::{compare, run, Calls, Mismatch, Plan};
 pub use inputs::{AskInput, Inputs, ListInput, Listable, ReplayInput};
+pub use plans::{compare_plans, legal_plans, random_plans, PlanInput, PlanMismatch, PlanTally};
 pub use rng::Rng;
 pub use tally::Tally;

@@ -5,6 +5,7 @@
 #![forbid(unsafe_code)]
 
 mod ask;
+mod handoff;
 mod order;
 mod replay;
 mod search;

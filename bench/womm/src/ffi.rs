@@ -52,6 +52,17 @@ extern "C" {
         schedule: *mut u8,
         schedule_length: usize,
     ) -> AskNumbers;
+
+    fn womm_handoff(
+        sending: *const u8,
+        sending_length: usize,
+        receiving: *const u8,
+        receiving_length: usize,
+        schedule: *mut u8,
+        schedule_length: usize,
+        verdict: *mut usize,
+        length: *mut usize,
+    ) -> u32;
 }
 
 /// What a question gives: the code, two marks and two numbers.
@@ -123,4 +134,12 @@ pub fn ask(block: &[u8], bound: u32, clauses: &[Clause], schedule: &mut [u8]) ->
     let (bytes, length) = (schedule.as_mut_ptr(), schedule.len());
     // SAFETY: as above; a clause has the layout that the library takes, and `schedule` is lent to this call alone.
     unsafe { womm_ask(block.as_ptr(), block.len(), bound, wish, wishes, bytes, length) }
+}
+
+/// Judges a pair of plans; gives the code.
+pub fn handoff(sending: &[u8], receiving: &[u8], schedule: &mut [u8], verdict: &mut usize, length: &mut usize) -> u32 {
+    let (other, others) = (receiving.as_ptr(), receiving.len());
+    let (bytes, room) = (schedule.as_mut_ptr(), schedule.len());
+    // SAFETY: as above; `schedule` and the numbers are lent to this call alone.
+    unsafe { womm_handoff(sending.as_ptr(), sending.len(), other, others, bytes, room, verdict, length) }
 }

@@ -1,9 +1,9 @@
 use std::hint::black_box;
 
-use model::{clause, Asked, Asker, Clause, Codec, Listed, Lister, Read, Replayed, Replayer, Waiter, Written};
+use model::{clause, Asked, Asker, Clause, Codec, HandedOff, Listed, Lister, Planner, Read, Replayed, Replayer, Waiter, Written};
 
 use crate::ffi::{self, ListNumbers, ReplayNumbers};
-use crate::{asked, mark, place_given, short};
+use crate::{asked, mark, place_given, short, verdict_given};
 
 /// The library with everything it is lent standing between canaries. After each call the canaries stand,
 /// the inputs are what they were, and every number has been given.
@@ -129,5 +129,17 @@ impl Asker for Guarded {
         assert_eq!(black_box(&wishes)[..], [&edge, clauses, &edge].concat(), "a clause was written");
         schedule.copy_from_slice(black_box(&lent).opened("schedule"));
         asked(given)
+    }
+}
+
+impl Planner for Guarded {
+    fn handoff(&self, sending: &[u8], receiving: &[u8], schedule: &mut [u8]) -> HandedOff {
+        let (sent, received, mut lent) = (Fenced::new(sending), Fenced::new(receiving), Fenced::new(schedule));
+        let [mut verdict, mut length] = std::array::from_fn(|_| FencedNumber::new());
+        let code = ffi::handoff(sent.inner(), received.inner(), lent.inner_mut(), verdict.lent(), length.lent());
+        assert_eq!(black_box(&sent).opened("sending plan"), sending, "the sending plan was written");
+        assert_eq!(black_box(&received).opened("receiving plan"), receiving, "the receiving plan was written");
+        schedule.copy_from_slice(black_box(&lent).opened("schedule"));
+        HandedOff { code, verdict: verdict_given(verdict.opened("verdict")), length: short(length.opened("length")) }
     }
 }

@@ -7,8 +7,8 @@ mod guarded;
 mod stop;
 
 pub use guarded::Guarded;
-pub use model::{clause, ops, Asked, Asker, Case, CaseBuilder, Clause, Codec, Ending, Instr, Listed, Lister};
-pub use model::{Outcome, Read, Reason, Refusal, Replayed, Replayer, Step, Wait, Waiter, Written};
+pub use model::{clause, ops, Act, Asked, Asker, Case, CaseBuilder, Clause, Codec, Ending, HandedOff, Instr, Listed, Lister};
+pub use model::{Outcome, Planner, Read, Reason, Refusal, Replayed, Replayer, Step, Verdict, Wait, Waiter, Written};
 pub use stop::{Place, Stop};
 
 use ffi::{AskNumbers, ListNumbers, ReplayNumbers};
@@ -68,6 +68,14 @@ impl Asker for Library {
 fn asked(given: AskNumbers) -> Asked {
     let AskNumbers { code, yes, length, cut, position } = given;
     Asked { code, yes: mark(yes), length: short(length), cut: mark(cut), position: short(position) }
+}
+
+impl Planner for Library {
+    fn handoff(&self, sending: &[u8], receiving: &[u8], schedule: &mut [u8]) -> HandedOff {
+        let [mut verdict, mut length] = [0; 2];
+        let code = ffi::handoff(sending, receiving, schedule, &mut verdict, &mut length);
+        HandedOff { code, verdict: verdict_given(verdict), length: short(length) }
+    }
 }
 
 /// Whether a block holds a case; if so, whether it held a usual bound too, which is dropped.
@@ -165,6 +173,30 @@ fn stop(case: &Case, steps: &[Step], replayed: Replayed) -> Result<Option<Stop>,
     Ok(stopped.map(|reason| Stop { reason, at }))
 }
 
+/// What a hand-off can come to.
+#[derive(Clone, Debug, PartialEq, Eq)]
+pub enum Handoff {
+    /// No finished run sees the flag and an old word; some run finishes.
+    Safe,
+    /// Some finished run does; the lowest schedule in byte order that shows it.
+    Stale(Vec<Step>),
+    /// No run finishes.
+    Stuck,
+}
+
+/// Judges a hand-off: what its sender and its receiver do.
+pub fn handoff(sending: &[Act], receiving: &[Act]) -> Result<Handoff, Refusal> {
+    let bytes = |plan: &[Act]| plan.iter().map(|act| act.byte()).collect::<Vec<u8>>();
+    let mut schedule = [0; SCHEDULE];
+    let answer = Library.handoff(&bytes(sending), &bytes(receiving), &mut schedule);
+    accepted(answer.code, 0)?;
+    Ok(match answer.verdict {
+        Verdict::Safe => Handoff::Safe,
+        Verdict::Stale => Handoff::Stale(steps(&schedule[..answer.length as usize])),
+        Verdict::Stuck => Handoff::Stuck,
+    })
+}
+
 /// Nothing with code 0, else the refusal at a position.
 fn accepted(code: u32, position: u32) -> Result<(), Refusal> {
     reason(code).map_or(Ok(()), |reason| Err(Refusal { reason, position }))
@@ -179,6 +211,12 @@ fn short(count: usize) -> u32 {
 fn place_given(number: usize) -> Option<u8> {
     let place = number.try_into().expect("no place is so large");
     Some(place).filter(|&place| place != 255)
+}
+
+/// A verdict that the library gives: 0 safe, 1 stale, 2 stuck.
+fn verdict_given(number: usize) -> Verdict {
+    let verdicts = [Verdict::Safe, Verdict::Stale, Verdict::Stuck];
+    *verdicts.get(number).unwrap_or_else(|| panic!("the library gave {number}, which is no verdict"))
 }
 
 /// A mark that the library gives: 1 is yes, 0 is no, and there is no other.

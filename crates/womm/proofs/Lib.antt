@@ -1,3 +1,4 @@
-mod One
 mod Marks
+mod One
 pub mod Asking
+pub mod Handing

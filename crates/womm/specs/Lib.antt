@@ -1,2 +1,3 @@
 pub mod Exports
 pub mod Asking
+pub mod Handing

@@ -5,6 +5,7 @@ ghost use lib.ListN.{length};
 ghost use Rattle.clauses.specs.Wanted.{clausesOf};
 ghost use Rattle.womm.specs.Exports.{ReadAs, WrittenAs, ReplayedAs, WhyAs, ListedAs};
 ghost use Rattle.womm.specs.Asking.{AskedAs};
+ghost use Rattle.womm.specs.Handing.{HandedAs};
 
 // Reads a block: 0 where it holds a case, else the first of codes 1 to 7 and 19; the position that the code carries; and 1 where an accepted block has
 // a usual bound, which is dropped, else 0.
@@ -131,4 +132,21 @@ pub extern "C" fn womm_ask<'b, 'c, 's>(
         i += 1;
     }
     ask_held(block, bound, a, schedule)
+}
+
+// Judges a boot hand-off: the code, the verdict (0 safe, 1 stale, 2 stuck), and the lowest stale schedule with its length in bytes.
+#[no_mangle]
+pub extern "C" fn womm_handoff(
+    sending: &[u8],
+    receiving: &[u8],
+    schedule: &mut [u8],
+    verdict: &mut usize,
+    length: &mut usize,
+) -> u32
+    ensures { λ r. ⌜ HandedAs (now (sending .entry)) (now (receiving .entry)) (now (schedule .entry)) r (now (verdict .exit)) (now (length .exit)) (now (schedule .exit)) ⌝ }
+{
+    let answer = handoffs::handoff(sending, receiving, schedule);
+    *verdict = answer.verdict as usize;
+    *length = answer.length;
+    answer.code as u32
 }
