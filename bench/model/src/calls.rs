@@ -66,6 +66,25 @@ pub struct HandedOff {
     pub length: u32,
 }
 
+/// The machines of request 07, by the number that stands for them; each has the results of those before it.
+#[derive(Clone, Copy, Debug, PartialEq, Eq, PartialOrd, Ord, Hash)]
+pub enum Board {
+    /// Stores reach memory at once.
+    Sc,
+    /// One first-in first-out buffer a processor.
+    Tso,
+    /// One a processor and location.
+    Pso,
+}
+
+impl Board {
+    pub const ALL: [Board; 3] = [Board::Sc, Board::Tso, Board::Pso];
+
+    pub fn number(self) -> u32 {
+        self as u32
+    }
+}
+
 impl HandedOff {
     /// Refused: the verdict is the first number, and says nothing.
     pub fn refused(reason: Reason) -> HandedOff {
@@ -155,4 +174,9 @@ pub trait Waiter {
 /// Judges a pair of plans.
 pub trait Planner {
     fn handoff(&self, sending: &[u8], receiving: &[u8], schedule: &mut [u8]) -> HandedOff;
+}
+
+/// Lists outcomes on a store-buffer machine; the bound counts instructions.
+pub trait BoardLister {
+    fn board(&self, board: Board, block: &[u8], bound: u32, records: &mut [u8]) -> Listed;
 }

@@ -9,22 +9,22 @@ pub fn named(position: usize) -> String {
         0 => "the number of processors".to_string(),
         1 => "the number of locations".to_string(),
         2 => "the usual bound".to_string(),
-        ..COUNTS => "which must be zero".to_string(),
-        ..MASKS => format!("processor {}, count", position - COUNTS),
-        ..PRESETS => format!("processor {}, preset mask", position - MASKS),
-        ..MEMORY => {
+        3 => "which must be zero".to_string(),
+        COUNTS..MASKS => format!("processor {}, count", position - COUNTS),
+        MASKS..PRESETS => format!("processor {}, preset mask", position - MASKS),
+        PRESETS..MEMORY => {
             let at = position - PRESETS;
             format!("processor {}, preset of register {}, {} byte", at / 16, at % 16 / 2, half(at))
         }
-        ..PROGRAMS => {
+        MEMORY..PROGRAMS => {
             let at = position - MEMORY;
             format!("memory word of location {}, {} byte", at / 2, half(at))
         }
-        ..TAIL => {
+        PROGRAMS..TAIL => {
             let at = position - PROGRAMS;
             format!("processor {}, instruction {}, {}", at / 72, at % 72 / 6, part(at % 6))
         }
-        ..CHECK => "which must be zero".to_string(),
+        TAIL..CHECK => "which must be zero".to_string(),
         _ => "the check".to_string(),
     }
 }

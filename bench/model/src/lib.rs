@@ -15,7 +15,8 @@ mod refusal;
 mod schedule;
 mod wait;
 
-pub use calls::{Asked, Asker, Codec, HandedOff, Listed, Lister, Planner, Read, Replayed, Replayer, Verdict, Waiter, Written};
+pub use calls::{Asked, Asker, Board, BoardLister, Codec, HandedOff, Listed, Lister, Planner, Read};
+pub use calls::{Replayed, Replayer, Verdict, Waiter, Written};
 pub use case::{Case, CaseBuilder, Processor};
 pub use clause::{clause, Clause, Named, CLAUSES};
 pub use instr::{ops, Instr};

@@ -42,6 +42,29 @@ fn programmed(rng: &mut Rng, mut case: CaseBuilder, p: usize, program: &[Instr])
     case.program(p, program)
 }
 
+/// A case that tells machines apart: reads and writes of two locations alone, two or three a processor.
+pub fn to_race(rng: &mut Rng) -> Case {
+    let processors = rng.pick(&[2, 2, 3]);
+    let mut case = started(rng, processors, 2);
+    for p in 0..processors {
+        let count = if processors == 3 { 2 } else { 2 + rng.below(2) };
+        let first = rng.below(2) as u8;
+        let program: Vec<Instr> = (0..count).map(|i| raced(rng, (first + i as u8) % 2)).collect();
+        case = case.preset(p, 7, p as u16 + 5).program(p, &program);
+    }
+    case.build().expect("a sound case")
+}
+
+/// A read or write of a location, or now and then of the other one.
+fn raced(rng: &mut Rng, location: u8) -> Instr {
+    let location = if rng.once_in(4) { 1 - location } else { location };
+    if rng.once_in(2) {
+        read(rng.pick(&ASSIGNED), location)
+    } else {
+        write(location, 7)
+    }
+}
+
 /// A critical section on each of two processors.
 fn two_sections(rng: &mut Rng) -> Case {
     let mut case = started(rng, 2, 2);

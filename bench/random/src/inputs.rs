@@ -1,8 +1,6 @@
-//! Random inputs of the calls: block, schedule or bound, and a buffer's length.
+//! Random inputs of the calls: schedule or bound, clauses, and a buffer's length.
 
-use std::ops::Range;
-
-use model::{block, clause, schedule, Case, Clause, Outcome, Step};
+use model::{clause, schedule, Case, Clause, Outcome, Step};
 use model::{ACTIONS, CLAUSES, ENDING, RECORD, REGISTERS, SCHEDULE, STEPS};
 use states::Run;
 
@@ -46,7 +44,7 @@ pub struct ReplayInput {
 
 /// A source of inputs, the same for the same seed.
 pub struct Inputs {
-    rng: Rng,
+    pub(crate) rng: Rng,
 }
 
 impl Inputs {
@@ -67,6 +65,20 @@ impl Inputs {
         }
     }
 
+    /// A case for boards and a bound: half the time one that tells them apart, else any.
+    pub fn boarded(&mut self) -> Listable {
+        if self.rng.once_in(2) {
+            return self.listable(u128::MAX);
+        }
+        loop {
+            let case = cases::to_race(&mut self.rng);
+            let bound = self.bound(&case);
+            if let Some(listing) = states::list_within(&case, bound, 4 * STATES) {
+                return Listable { case, bound, outcomes: listing.outcomes.into_iter().collect() };
+            }
+        }
+    }
+
     pub fn to_list(&mut self, held: &Listable) -> ListInput {
         let room = self.records_room(held.outcomes.len());
         let block = self.block(&held.case).to_vec();
@@ -78,9 +90,18 @@ impl Inputs {
         ListInput { room, ..self.to_list(held) }
     }
 
+    /// A listing on a board: the bound counts instructions, half of the steps or one beside.
+    pub fn to_board(&mut self, held: &Listable) -> ListInput {
+        let input = self.to_list(held);
+        let near = self.rng.pick(&[0, 0, 0, 1]);
+        let bound = if input.bound <= STEPS as u32 { (input.bound / 2).saturating_sub(near) } else { input.bound };
+        let bound = if self.rng.once_in(24) { self.rng.pick(&[48, 49, 96, 97]) } else { bound };
+        ListInput { bound, ..input }
+    }
+
     /// A question about a case: mostly up to three clauses, half of them taken from one outcome.
     pub fn to_ask(&mut self, held: &Listable) -> AskInput {
-        let wanted = (!held.outcomes.is_empty()).then(|| self.rng.pick(&held.outcomes)).unwrap_or_default();
+        let wanted = if held.outcomes.is_empty() { Outcome::default() } else { self.rng.pick(&held.outcomes) };
         let slips = self.rng.once_in(2);
         let most = if self.rng.once_in(16) { CLAUSES + 2 } else { 4 };
         let clauses = (0..self.rng.below(most)).map(|_| self.clause(&held.case, &wanted, slips)).collect();
@@ -105,12 +126,6 @@ impl Inputs {
             _ => (),
         }
         clause
-    }
-
-    /// A case's block, once in three times an old one with a usual bound.
-    fn block(&mut self, case: &Case) -> [u8; block::LENGTH] {
-        let bound = if self.rng.once_in(3) { 1 + self.rng.below(STEPS) } else { 0 };
-        block::with_bound(case.block(), bound as u8)
     }
 
     /// Mostly the steps of one pass over every program, now and then a little less or more; for a case with
@@ -239,88 +254,5 @@ impl Inputs {
             _ => (),
         }
         input
-    }
-
-    /// A block of a random case with a byte changed at each of some positions, and the check put right mostly.
-    pub fn to_judge(&mut self, positions: &[usize]) -> Vec<u8> {
-        let case = cases::to_replay(&mut self.rng);
-        let mut bytes = self.block(&case);
-        for &at in positions {
-            bytes[at] = self.other_byte(bytes[at]);
-        }
-        self.closed(bytes)
-    }
-
-    /// A block with up to six bytes changed, one in each part.
-    pub fn to_judge_any(&mut self) -> Vec<u8> {
-        let parts = [0..4, 4..8, 8..92, 92..380, 92..380, 380..510];
-        let changed: Vec<usize> = parts.into_iter().filter_map(|part| self.within(part)).collect();
-        self.to_judge(&changed)
-    }
-
-    /// A block with a preset or two less, or another register in a field: mostly one that reads what nothing sets.
-    pub fn to_judge_unset(&mut self) -> Vec<u8> {
-        let case = cases::to_replay(&mut self.rng);
-        let mut bytes = self.block(&case);
-        for _ in 0..1 + self.rng.below(3) {
-            let p = self.rng.below(bytes[0].into());
-            if self.rng.once_in(2) {
-                self.unset(&mut bytes, p);
-            } else {
-                let at = 92 + 72 * p + 6 * self.rng.below(bytes[4 + p].into()) + 1 + self.rng.below(3);
-                bytes[at] = self.rng.below(8) as u8;
-            }
-        }
-        self.closed(bytes)
-    }
-
-    /// Takes a preset of processor p away.
-    fn unset(&mut self, bytes: &mut [u8; block::LENGTH], p: usize) {
-        let k = self.rng.below(8);
-        bytes[8 + p] &= !(1 << k);
-        bytes[12 + 16 * p + 2 * k..][..2].fill(0);
-    }
-
-    /// Half the time one of some positions.
-    fn within(&mut self, part: Range<usize>) -> Option<usize> {
-        let at = part.start + self.rng.below(part.len());
-        self.rng.once_in(2).then_some(at)
-    }
-
-    /// A block with one byte changed, or of another length.
-    fn spoilt_block(&mut self, sound: &[u8]) -> Vec<u8> {
-        let mut bytes: [u8; block::LENGTH] = sound.try_into().expect("a block");
-        let at = match self.rng.below(8) {
-            0 => return [sound, &[0]].concat()[..self.rng.pick(&[0, 1, 511, 513])].to_vec(),
-            7 => {
-                (0..3).for_each(|_| self.unset(&mut bytes, 0));
-                return self.closed(bytes);
-            }
-            1 => self.rng.below(512),
-            2 => self.rng.below(4),
-            3 => 4 + self.rng.below(4),
-            4 => 8 + self.rng.below(84),
-            5 => 92 + 72 * self.rng.below(bytes[0].into()) + self.rng.below(12),
-            _ => 104 + self.rng.below(406),
-        };
-        bytes[at] = self.other_byte(bytes[at]);
-        self.closed(bytes)
-    }
-
-    /// Any byte, or one near.
-    fn other_byte(&mut self, byte: u8) -> u8 {
-        if self.rng.once_in(2) {
-            self.rng.byte()
-        } else {
-            byte ^ 1
-        }
-    }
-
-    /// A block with its check put right, once in eight times as it is.
-    fn closed(&mut self, mut bytes: [u8; block::LENGTH]) -> Vec<u8> {
-        if !self.rng.once_in(8) {
-            block::seal(&mut bytes);
-        }
-        bytes.to_vec()
     }
 }

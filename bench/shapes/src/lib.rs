@@ -42,6 +42,19 @@ impl Shape {
         self.watched.iter().map(|&(p, k)| outcome.registers[p][k]).collect()
     }
 
+    /// The bound of instructions that answers to its bound of steps.
+    pub fn instructions(&self) -> u8 {
+        self.bound / 2
+    }
+
+    /// Values of the watched registers, each behind its name: processor, then register.
+    pub fn named(&self, values: &[Option<u16>]) -> String {
+        let name = |(&(p, k), value): (&Register, &Option<u16>)| {
+            format!("p{p} r{k} = {}", value.map_or("-".to_string(), |value| value.to_string()))
+        };
+        self.watched.iter().zip(values).map(name).collect::<Vec<_>>().join(", ")
+    }
+
     /// Whether these are the outcomes expected.
     pub fn expects(&self, outcomes: &BTreeSet<Outcome>) -> bool {
         let seen: BTreeSet<_> = outcomes.iter().map(|outcome| self.seen(outcome)).collect();

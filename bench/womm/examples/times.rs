@@ -1,10 +1,11 @@
 //! `times [MOST]` times the library beside the plain depth-first search, where that has at most so many
-//! schedules to walk (by default 30,000,000), and beside the breadth-first enumerator; then questions beside lists; then replays.
+//! schedules to walk (by default 30,000,000), and beside the breadth-first enumerator; then questions beside lists; then
+//! store-buffer machines; then replays.
 
 use std::env;
 use std::time::Instant;
 
-use model::{clause, Asker, Clause, Lister, Replayer, ENDING, RECORD, SCHEDULE};
+use model::{clause, Asker, Board, BoardLister, Clause, Lister, Replayer, ENDING, RECORD, SCHEDULE};
 use plain::Plain;
 use random::{Inputs, ReplayInput};
 use shapes::Shape;
@@ -28,7 +29,29 @@ fn main() {
     println!();
     asks();
     println!();
+    boards();
+    println!();
     replays();
+}
+
+/// Each shape on each store-buffer machine, and on WOMM.
+fn boards() {
+    println!("Milliseconds a list on each machine, with a bound of instructions, and on WOMM with twice as many steps.\n");
+    println!("{:24}{:>5}{:>11}{:>11}{:>11}{:>11}", "shape", "bound", "SC", "TSO", "PSO", "WOMM");
+    for shape in shapes::lists() {
+        let [sc, tso, pso] = Board::ALL.map(|board| board_time(board, &shape) * 1e3);
+        let (name, bound, womm) = (shape.name, shape.instructions(), list_time(&Library, &shape) * 1e3);
+        println!("{name:24}{bound:>5}{sc:>11.3}{tso:>11.3}{pso:>11.3}{womm:>11.3}");
+    }
+}
+
+fn board_time(board: Board, shape: &Shape) -> f64 {
+    let block = shape.case.block();
+    let mut records = vec![0; ROOM * RECORD];
+    best(|| {
+        let listed = Library.board(board, &block, shape.instructions().into(), &mut records);
+        assert_eq!(listed.code, 0);
+    })
 }
 
 /// For each shape the slowest of its results, each asked for with its lowest schedule, beside the whole list.

@@ -43,6 +43,18 @@ extern "C" {
         position: *mut usize,
     ) -> u32;
 
+    fn womm_board(
+        kind: u32,
+        block: *const u8,
+        block_length: usize,
+        bound: u32,
+        records: *mut u8,
+        records_length: usize,
+        count: *mut usize,
+        cut: *mut usize,
+        position: *mut usize,
+    ) -> u32;
+
     fn womm_ask(
         block: *const u8,
         block_length: usize,
@@ -82,7 +94,7 @@ pub struct ReplayNumbers<'a> {
     pub position: &'a mut usize,
 }
 
-/// The numbers that a list hands back.
+/// The numbers that a list hands back, on whatever machine.
 pub struct ListNumbers<'a> {
     pub count: &'a mut usize,
     pub cut: &'a mut usize,
@@ -126,6 +138,14 @@ pub fn outcomes(block: &[u8], bound: u32, records: &mut [u8], numbers: ListNumbe
     let (bytes, length) = (records.as_mut_ptr(), records.len());
     // SAFETY: as above; `records` and the numbers are lent to this call alone.
     unsafe { womm_outcomes(block.as_ptr(), block.len(), bound, bytes, length, count, cut, position) }
+}
+
+/// Lists outcomes on a board; gives the code.
+pub fn board(kind: u32, block: &[u8], bound: u32, records: &mut [u8], numbers: ListNumbers) -> u32 {
+    let ListNumbers { count, cut, position } = numbers;
+    let (bytes, length) = (records.as_mut_ptr(), records.len());
+    // SAFETY: as above; `records` and the numbers are lent to this call alone.
+    unsafe { womm_board(kind, block.as_ptr(), block.len(), bound, bytes, length, count, cut, position) }
 }
 
 /// Asks for a result.

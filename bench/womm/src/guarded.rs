@@ -1,9 +1,10 @@
 use std::hint::black_box;
 
-use model::{clause, Asked, Asker, Clause, Codec, HandedOff, Listed, Lister, Planner, Read, Replayed, Replayer, Waiter, Written};
+use model::{clause, Asked, Asker, Board, BoardLister, Clause, Codec, HandedOff, Listed, Lister, Planner, Read};
+use model::{Replayed, Replayer, Waiter, Written};
 
 use crate::ffi::{self, ListNumbers, ReplayNumbers};
-use crate::{asked, mark, place_given, short, verdict_given};
+use crate::library::{asked, mark, place_given, short, verdict_given};
 
 /// The library with everything it is lent standing between canaries. After each call the canaries stand,
 /// the inputs are what they were, and every number has been given.
@@ -78,15 +79,26 @@ impl Codec for Guarded {
 
 impl Lister for Guarded {
     fn outcomes(&self, block: &[u8], bound: u32, records: &mut [u8]) -> Listed {
-        let (held, mut lent) = (Fenced::new(block), Fenced::new(records));
-        let [mut count, mut cut, mut position] = std::array::from_fn(|_| FencedNumber::new());
-        let given = ListNumbers { count: count.lent(), cut: cut.lent(), position: position.lent() };
-        let code = ffi::outcomes(held.inner(), bound, lent.inner_mut(), given);
-        assert_eq!(black_box(&held).opened("block"), block, "the block was written");
-        records.copy_from_slice(black_box(&lent).opened("records"));
-        let (count, position) = (short(count.opened("count")), short(position.opened("position")));
-        Listed { code, count, cut: mark(cut.opened("cut mark")), position }
+        listed(|block, records, given| ffi::outcomes(block, bound, records, given), block, records)
     }
+}
+
+impl BoardLister for Guarded {
+    fn board(&self, board: Board, block: &[u8], bound: u32, records: &mut [u8]) -> Listed {
+        listed(|block, records, given| ffi::board(board.number(), block, bound, records, given), block, records)
+    }
+}
+
+/// Makes one of the calls that fill records and hand back a list's numbers.
+fn listed(call: impl FnOnce(&[u8], &mut [u8], ListNumbers) -> u32, block: &[u8], records: &mut [u8]) -> Listed {
+    let (held, mut lent) = (Fenced::new(block), Fenced::new(records));
+    let [mut count, mut cut, mut position] = std::array::from_fn(|_| FencedNumber::new());
+    let given = ListNumbers { count: count.lent(), cut: cut.lent(), position: position.lent() };
+    let code = call(held.inner(), lent.inner_mut(), given);
+    assert_eq!(black_box(&held).opened("block"), block, "the block was written");
+    records.copy_from_slice(black_box(&lent).opened("records"));
+    let (count, position) = (short(count.opened("count")), short(position.opened("position")));
+    Listed { code, count, cut: mark(cut.opened("cut mark")), position }
 }
 
 impl Replayer for Guarded {

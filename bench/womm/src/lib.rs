@@ -4,79 +4,17 @@
 
 mod ffi;
 mod guarded;
+mod library;
 mod stop;
 
 pub use guarded::Guarded;
-pub use model::{clause, ops, Act, Asked, Asker, Case, CaseBuilder, Clause, Codec, Ending, HandedOff, Instr, Listed, Lister};
-pub use model::{Outcome, Planner, Read, Reason, Refusal, Replayed, Replayer, Step, Verdict, Wait, Waiter, Written};
+pub use library::Library;
+pub use model::{clause, ops, Act, Asked, Asker, Board, BoardLister, Case, CaseBuilder, Clause, Codec, Ending, HandedOff};
+pub use model::{Instr, Listed, Lister, Outcome, Planner, Read, Reason, Refusal, Replayed, Replayer, Step, Verdict, Wait};
+pub use model::{Waiter, Written};
 pub use stop::{Place, Stop};
 
-use ffi::{AskNumbers, ListNumbers, ReplayNumbers};
 use model::{schedule, steps, ENDING, RECORD, SCHEDULE, WAITS};
-
-/// The library over plain bytes.
-pub struct Library;
-
-impl Codec for Library {
-    fn read(&self, block: &[u8]) -> Read {
-        let [mut position, mut usual] = [0; 2];
-        let code = ffi::read(block, &mut position, &mut usual);
-        Read { code, position: short(position), usual: mark(usual) }
-    }
-
-    fn write(&self, block: &mut [u8]) -> Written {
-        let mut position = 0;
-        let code = ffi::write(block, &mut position);
-        Written { code, position: short(position) }
-    }
-}
-
-impl Lister for Library {
-    fn outcomes(&self, block: &[u8], bound: u32, records: &mut [u8]) -> Listed {
-        let [mut count, mut cut, mut position] = [0; 3];
-        let given = ListNumbers { count: &mut count, cut: &mut cut, position: &mut position };
-        let code = ffi::outcomes(block, bound, records, given);
-        Listed { code, count: short(count), cut: mark(cut), position: short(position) }
-    }
-}
-
-impl Replayer for Library {
-    fn replay(&self, block: &[u8], schedule: &[u8], result: &mut [u8]) -> Replayed {
-        replayed(|given| ffi::replay(block, schedule, result, given))
-    }
-}
-
-impl Waiter for Library {
-    fn why(&self, block: &[u8], schedule: &[u8], causes: &mut [u8]) -> Replayed {
-        replayed(|given| ffi::why(block, schedule, causes, given))
-    }
-}
-
-/// Makes one of the calls that hand back a replay's numbers.
-fn replayed(call: impl FnOnce(ReplayNumbers) -> u32) -> Replayed {
-    let [mut steps, mut place, mut position] = [0; 3];
-    let code = call(ReplayNumbers { steps: &mut steps, place: &mut place, position: &mut position });
-    Replayed { code, steps: short(steps), place: place_given(place), position: short(position) }
-}
-
-impl Asker for Library {
-    fn ask(&self, block: &[u8], bound: u32, clauses: &[Clause], schedule: &mut [u8]) -> Asked {
-        asked(ffi::ask(block, bound, clauses, schedule))
-    }
-}
-
-fn asked(given: AskNumbers) -> Asked {
-    let AskNumbers { code, yes, length, cut, position } = given;
-    Asked { code, yes: mark(yes), length: short(length), cut: mark(cut), position: short(position) }
-}
-
-impl Planner for Library {
-    fn handoff(&self, sending: &[u8], receiving: &[u8], schedule: &mut [u8]) -> HandedOff {
-        let [mut verdict, mut length] = [0; 2];
-        let code = ffi::handoff(sending, receiving, schedule, &mut verdict, &mut length);
-        HandedOff { code, verdict: verdict_given(verdict), length: short(length) }
-    }
-}
 
 /// Whether a block holds a case; if so, whether it held a usual bound too, which is dropped.
 pub fn read(block: &[u8]) -> Result<bool, Refusal> {
@@ -129,8 +67,17 @@ pub fn ask(case: &Case, bound: u32, clauses: &[Clause]) -> Result<Answer, Refusa
 /// Lists a case's outcomes, with room for so many. A bound of 96 takes a little over a megabyte of stack; on
 /// a thread that has less, the process ends.
 pub fn outcomes(case: &Case, bound: u32, room: usize) -> Result<Listing, Refusal> {
+    listing(room, |records| Library.outcomes(&case.block(), bound, records))
+}
+
+/// Lists a case's outcomes on a store-buffer machine, with room for so many; the bound counts instructions.
+pub fn board(board: Board, case: &Case, bound: u32, room: usize) -> Result<Listing, Refusal> {
+    listing(room, |records| Library.board(board, &case.block(), bound, records))
+}
+
+fn listing(room: usize, list: impl FnOnce(&mut [u8]) -> Listed) -> Result<Listing, Refusal> {
     let mut records = vec![0; room * RECORD];
-    let listed = Library.outcomes(&case.block(), bound, &mut records);
+    let listed = list(&mut records);
     accepted(listed.code, listed.position)?;
     let records = records.chunks_exact(RECORD).take(listed.count as usize);
     let read = |record: &[u8]| Outcome::read(record.try_into().expect("96 bytes"));
@@ -202,31 +149,8 @@ fn accepted(code: u32, position: u32) -> Result<(), Refusal> {
     reason(code).map_or(Ok(()), |reason| Err(Refusal { reason, position }))
 }
 
-/// A number that the library gives: records, steps, bytes or a position.
-fn short(count: usize) -> u32 {
-    count.try_into().expect("no answer of document 01 is so large")
-}
-
-/// A place that the library gives; 255 is none.
-fn place_given(number: usize) -> Option<u8> {
-    let place = number.try_into().expect("no place is so large");
-    Some(place).filter(|&place| place != 255)
-}
-
-/// A verdict that the library gives: 0 safe, 1 stale, 2 stuck.
-fn verdict_given(number: usize) -> Verdict {
-    let verdicts = [Verdict::Safe, Verdict::Stale, Verdict::Stuck];
-    *verdicts.get(number).unwrap_or_else(|| panic!("the library gave {number}, which is no verdict"))
-}
-
-/// A mark that the library gives: 1 is yes, 0 is no, and there is no other.
-fn mark(number: usize) -> bool {
-    assert!(number <= 1, "the library gave {number}, which is neither yes nor no");
-    number == 1
-}
-
 fn reason(code: u32) -> Option<Reason> {
     let reason = Reason::from_code(code);
-    assert!(code == 0 || reason.is_some(), "the library gave {code}, which is no code of document 01");
+    assert!(code == 0 || reason.is_some(), "the library gave {code}, which is no code of documents 01 and 02");
     reason
 }

@@ -119,7 +119,7 @@ fn sees(
 }
 
 // How many registers an instruction reads.
-fn arity(i: Instr) -> u8
+pub fn arity(i: Instr) -> u8
     ensures { λ r. ⌜ r ≡ length (reads i) ⌝ }
 {
     match i {
@@ -160,7 +160,7 @@ pub fn input(c: Case, acts: [Entry; 48], issued: usize, name: u8) -> u16
 }
 
 // Who holds location x: 0 is nobody, 1 + p is processor p.
-fn holder_at(holders: &[u8; 8], x: usize) -> u8
+pub fn holder_at(holders: &[u8; 8], x: usize) -> u8
     requires { ⌜ length (now holders) ≡ 8 ⌝ }
     ensures { λ r. ⌜ r ≡ getD (now (holders .entry)) x 0 ⌝ }
 {
@@ -171,7 +171,7 @@ fn holder_at(holders: &[u8; 8], x: usize) -> u8
 }
 
 // Whether the holder h of its location bars a commit of a kind by processor p.
-fn barred_by(h: u8, kind: u8, p: usize) -> bool
+pub fn barred_by(h: u8, kind: u8, p: usize) -> bool
     requires { ⌜ p < 4 ⌝ }
     ensures { λ r. ⌜ r ≡ barred p kind (holderOf h) ⌝ }
 {
@@ -266,7 +266,7 @@ pub fn commit_code<'a>(
 }
 
 // What a commit gives: v is the value of the source, x and y are the inputs.
-fn result_by(v: u16, x: u16, y: u16, i: Instr) -> u16
+pub fn result_by(v: u16, x: u16, y: u16, i: Instr) -> u16
     ensures { λ r. ⌜ r ≡ resultBy v x y i ⌝ }
 {
     match i {
@@ -298,7 +298,7 @@ pub fn label_of(i: Instr) -> u16
 }
 
 // Where a branch at a place goes, whose register holds x.
-fn branch_to(x: u16, place: u8, label: u16) -> u8
+pub fn branch_to(x: u16, place: u8, label: u16) -> u8
     requires { ⌜ place < 12 ⌝ }
     ensures { λ r. ⌜ r ≡ branchTo x place label ⌝ }
 {
@@ -332,7 +332,7 @@ fn put_holder(h: [u8; 8], x: usize, v: u8) -> [u8; 8]
 }
 
 // The holders after a commit of a kind by processor p, at location x.
-fn locked_by(kind: u8, h: [u8; 8], x: usize, p: usize) -> [u8; 8]
+pub fn locked_by(kind: u8, h: [u8; 8], x: usize, p: usize) -> [u8; 8]
     requires { ⌜ (p < 4) × (length h ≡ 8) ⌝ }
     ensures { λ r. ⌜ r ≡ lockedBy kind h x p ⌝ }
 {

@@ -84,7 +84,7 @@ fn join_orders(
 }
 
 // The first register that an instruction reads, its address register, or 0.
-fn first_read(i: Instr) -> u8
+pub fn first_read(i: Instr) -> u8
     ensures { λ r. ⌜ r ≡ getD (reads i) 0 0 ⌝ }
 {
     match i {
@@ -105,7 +105,7 @@ fn first_read(i: Instr) -> u8
 }
 
 // The second register that an instruction reads, or 0.
-fn second_read(i: Instr) -> u8
+pub fn second_read(i: Instr) -> u8
     ensures { λ r. ⌜ r ≡ getD (reads i) 1 0 ⌝ }
 {
     match i {
@@ -143,7 +143,7 @@ fn place_after(i: Instr, place: u8) -> u8
 }
 
 // The register that an instruction assigns, or 8.
-fn assigned(i: Instr) -> u8
+pub fn assigned(i: Instr) -> u8
     ensures { λ r. ⌜ r ≡ assignedBy i ⌝ }
 {
     match i {

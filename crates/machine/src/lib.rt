@@ -71,7 +71,7 @@ fn value_at(acts: [Entry; 48], issued: usize, k: usize) -> Value
 }
 
 // What register n, counted over all processors, starts with.
-fn preset_of(c: Case, n: usize) -> Value
+pub fn preset_of(c: Case, n: usize) -> Value
     requires { ⌜ n < 32 ⌝ }
     ensures { λ r. ⌜ shownValue r ≡ presetOf c (n / 8) (n % 8) ⌝ }
 {
@@ -167,7 +167,7 @@ fn register(c: Case, names: &[u8; 32], acts: [Entry; 48], issued: usize, n: usiz
 }
 
 // Byte j of the three of a register.
-fn byte_of(v: Value, j: usize) -> u8
+pub fn byte_of(v: Value, j: usize) -> u8
     requires { ⌜ j < 3 ⌝ }
     ensures { λ r. ⌜ r ≡ getD (registerBytes (shownValue v)) j 0 ⌝ }
 {

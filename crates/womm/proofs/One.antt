@@ -6,7 +6,9 @@ use Rattle.runs.specs.Listing.{Listed}
 use Rattle.replaying.specs.Answer.{Question, result}
 use Rattle.waiting.specs.Why.{waits}
 use Rattle.listing.proofs.Exact.{outcomes-unique}
-use Rattle.womm.specs.Exports.{markOf, ReadAs, WrittenAs, AnsweredAs, ReplayedAs, WhyAs, ListedAs}
+use Rattle.boardlisting.specs.Outcomes.{machineOf}
+use Rattle.boardlisting.proofs.Refusals as Boards
+use Rattle.womm.specs.Exports.{markOf, ReadAs, WrittenAs, AnsweredAs, ReplayedAs, WhyAs, ListedAs, BoardListedAs}
 
 pub one-read : (block : List ℕ) (r r′ at at′ u u′ : ℕ) → ReadAs block r at u → ReadAs block r′ at′ u′ → (r ≡ r′) × (at ≡ at′) × (u ≡ u′)
 one-read block r r′ at at′ u u′ a b = (a .code ∙ sym (b .code), a .position ∙ sym (b .position), a .usual ∙ sym (b .usual))
@@ -27,6 +29,16 @@ one-why = one-answered waits
 pub one-list : (block : List ℕ) (bound size r r′ n n′ x x′ at at′ : ℕ) (out out′ : List ℕ) → ListedAs block bound size r n x at out → ListedAs block bound size r′ n′ x′ at′ out′ → (r ≡ r′) × (n ≡ n′) × (x ≡ x′) × (at ≡ at′) × (out ≡ out′)
 one-list block bound size r r′ n n′ x x′ at at′ out out′ a b =
     let same = outcomes-unique block bound size (a .answer) (b .answer) at at′ out out′ (a .list) (b .list) in (
+      a .code ∙ ap (λ (y : Listed). y .code) (same .0) ∙ sym (b .code),
+      a .count ∙ ap (λ (y : Listed). y .count) (same .0) ∙ sym (b .count),
+      a .cut ∙ ap (λ (y : Listed). markOf (y .cut)) (same .0) ∙ sym (b .cut),
+      same .1,
+      same .2,
+    )
+
+pub one-board : (kind : ℕ) (block : List ℕ) (bound size r r′ n n′ x x′ at at′ : ℕ) (out out′ : List ℕ) → BoardListedAs kind block bound size r n x at out → BoardListedAs kind block bound size r′ n′ x′ at′ out′ → (r ≡ r′) × (n ≡ n′) × (x ≡ x′) × (at ≡ at′) × (out ≡ out′)
+one-board kind block bound size r r′ n n′ x x′ at at′ out out′ a b =
+    let same = Boards.outcomes-unique (machineOf kind) block bound size (a .answer) (b .answer) at at′ out out′ (a .list) (b .list) in (
       a .code ∙ ap (λ (y : Listed). y .code) (same .0) ∙ sym (b .code),
       a .count ∙ ap (λ (y : Listed). y .count) (same .0) ∙ sym (b .count),
       a .cut ∙ ap (λ (y : Listed). markOf (y .cut)) (same .0) ∙ sym (b .cut),

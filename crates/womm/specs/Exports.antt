@@ -8,6 +8,7 @@ use Rattle.runs.specs.Listing.{Listed}
 use Rattle.replaying.specs.Answer.{Question, result, asked}
 use Rattle.waiting.specs.Why.{waits}
 use Rattle.listing.specs.Outcomes.{IsOutcomes}
+use Rattle.boardlisting.specs.Outcomes.{machineOf, IsBoardOutcomes}
 
 -- A mark as a number: 1 for yes, 0 for no.
 abbrev pub markOf : Bool → ℕ
@@ -45,6 +46,14 @@ WhyAs = AnsweredAs waits
 pub record ListedAs (block : List ℕ) (bound size r n x at : ℕ) (out : List ℕ) : Type 0 where
   pub answer : Listed
   pub list : IsOutcomes block bound size answer at out
+  pub code : r ≡ answer .code
+  pub count : n ≡ answer .count
+  pub cut : x ≡ markOf (answer .cut)
+
+-- The outcomes on the machine of a kind are listed, into a buffer of this size: code, numbers and bytes as above.
+pub record BoardListedAs (kind : ℕ) (block : List ℕ) (bound size r n x at : ℕ) (out : List ℕ) : Type 0 where
+  pub answer : Listed
+  pub list : IsBoardOutcomes (machineOf kind) block bound size answer at out
   pub code : r ≡ answer .code
   pub count : n ≡ answer .count
   pub cut : x ≡ markOf (answer .cut)

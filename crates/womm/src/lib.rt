@@ -3,7 +3,7 @@ use clauses::Asked;
 use clauses::Clause;
 ghost use lib.ListN.{length};
 ghost use Rattle.clauses.specs.Wanted.{clausesOf};
-ghost use Rattle.womm.specs.Exports.{ReadAs, WrittenAs, ReplayedAs, WhyAs, ListedAs};
+ghost use Rattle.womm.specs.Exports.{ReadAs, WrittenAs, ReplayedAs, WhyAs, ListedAs, BoardListedAs};
 ghost use Rattle.womm.specs.Asking.{AskedAs};
 ghost use Rattle.womm.specs.Handing.{HandedAs};
 
@@ -149,4 +149,24 @@ pub extern "C" fn womm_handoff(
     *verdict = answer.verdict as usize;
     *length = answer.length;
     answer.code as u32
+}
+
+// Lists the outcomes on the store-buffer machine of a kind within a bound of instructions; answers as `womm_outcomes` does.
+#[no_mangle]
+pub extern "C" fn womm_board(
+    kind: u32,
+    block: &[u8],
+    bound: u32,
+    records: &mut [u8],
+    count: &mut usize,
+    cut: &mut usize,
+    position: &mut usize,
+) -> u32
+    ensures { λ r. ⌜ BoardListedAs kind (now (block .entry)) bound (length (now (records .entry))) r (now (count .exit)) (now (cut .exit)) (now (position .exit)) (now (records .exit)) ⌝ }
+{
+    let found = boardlisting::outcomes(boardlisting::machine_of(kind), block, bound, records);
+    *count = found.count;
+    *cut = found.cut as usize;
+    *position = found.position;
+    found.code as u32
 }

@@ -1,0 +1,4 @@
+pub mod Loop
+pub mod Sparing
+pub mod Whole
+pub mod Refusals

@@ -1,0 +1,5 @@
+pub mod Outcomes
+pub mod Moves
+pub mod Searched
+pub mod Spent
+pub mod Ready

@@ -1,0 +1,14 @@
+pub mod Accepted
+pub mod Buffers
+pub mod Stable
+pub mod Waiting
+pub mod Answers
+pub mod Views
+pub mod Footprints
+pub mod Crossing
+pub mod Own
+pub mod Apart
+pub mod Sure
+pub mod Spent
+pub mod Search
+pub mod Shapes

@@ -1,0 +1,10 @@
+pub mod Board
+pub mod Run
+pub mod Drain
+pub mod Machine
+pub mod Listing
+pub mod Shapes
+pub mod Question
+pub mod Waiting
+pub mod Quiet
+pub mod Apart

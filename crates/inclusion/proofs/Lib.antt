@@ -1,0 +1,10 @@
+pub mod Sized
+pub mod Took
+pub mod Stores
+pub mod Mirror
+pub mod Reading
+pub mod Running
+pub mod Keeping
+pub mod Within
+pub mod Direct
+pub mod Parted

@@ -1,0 +1,5 @@
+pub mod Operands
+pub mod Seeing
+pub mod Records
+pub mod Draining
+pub mod Running

@@ -1,0 +1,4 @@
+pub mod Shown
+pub mod Steps
+pub mod Valid
+pub mod Glanced
