@@ -6,4 +6,6 @@ mod outcome;
 
 pub use answers::refusal;
 pub use answers::replay;
+pub use laying::word;
+pub use number::decimal;
 pub use outcome::list;

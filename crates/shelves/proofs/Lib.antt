@@ -1,0 +1,10 @@
+pub mod Local
+pub mod Adding
+pub mod Tallying
+pub mod Splitting
+pub mod Onwards
+pub mod Sums
+pub mod Cuts
+pub mod Laying
+pub mod Reported
+pub mod Lengths
