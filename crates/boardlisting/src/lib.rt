@@ -1,5 +1,5 @@
 // Lists every outcome of a case on a store-buffer machine within a bound of instructions, by a depth-first search that runs a quiet
-// instruction alone and records an outcome as soon as every place counter is at its count.
+// instruction alone, records an outcome as soon as every place counter is at its count, and leaves out moves that are spent.
 use boards::Buffering;
 use cases::Case;
 use running::Arrays;

@@ -40,7 +40,7 @@ pub struct Arrays {
 }
 
 // What processor p reads at location l.
-pub fn seen(k: Buffering, s: Arrays, p: usize, l: usize) -> u16
+fn seen(k: Buffering, s: Arrays, p: usize, l: usize) -> u16
     requires { ⌜ (l < 8) × (s .logged ≤ 48) × (length (s .log) ≡ 48) × (length (s .memory) ≡ 8) ⌝ }
     ensures { λ r. ⌜ ((c : TheCase) → r ≡ seenOf k (shown k c s) p l) ⌝ }
 {
@@ -56,7 +56,7 @@ pub fn seen(k: Buffering, s: Arrays, p: usize, l: usize) -> u16
 }
 
 // What register r of processor p holds, where it is there.
-pub fn operand(values: [Value; 32], p: usize, there: bool, r: u8) -> Value
+fn operand(values: [Value; 32], p: usize, there: bool, r: u8) -> Value
     requires { ⌜ (p < 4) × (length values ≡ 32) ⌝ }
     ensures { λ x. ⌜ shownValue x ≡ operandBy values p there r ⌝ }
 {
@@ -73,7 +73,7 @@ pub fn operand(values: [Value; 32], p: usize, there: bool, r: u8) -> Value
 }
 
 // What the first register that an instruction reads holds.
-pub fn first(values: [Value; 32], p: usize, i: Instr) -> Value
+fn first(values: [Value; 32], p: usize, i: Instr) -> Value
     requires { ⌜ (p < 4) × (length values ≡ 32) ⌝ }
     ensures { λ r. ⌜ shownValue r ≡ firstBy values p i ⌝ }
 {
@@ -82,7 +82,7 @@ pub fn first(values: [Value; 32], p: usize, i: Instr) -> Value
 }
 
 // What the second holds.
-pub fn second(values: [Value; 32], p: usize, i: Instr) -> Value
+fn second(values: [Value; 32], p: usize, i: Instr) -> Value
     requires { ⌜ (p < 4) × (length values ≡ 32) ⌝ }
     ensures { λ r. ⌜ shownValue r ≡ secondBy values p i ⌝ }
 {
@@ -91,7 +91,7 @@ pub fn second(values: [Value; 32], p: usize, i: Instr) -> Value
 }
 
 // Whether a register that an instruction reads is undefined.
-pub fn unready(values: [Value; 32], p: usize, i: Instr) -> bool
+fn unready(values: [Value; 32], p: usize, i: Instr) -> bool
     requires { ⌜ (p < 4) × (length values ≡ 32) ⌝ }
     ensures { λ r. ⌜ r ≡ unreadyBy values p i ⌝ }
 {
@@ -102,7 +102,7 @@ pub fn unready(values: [Value; 32], p: usize, i: Instr) -> bool
 }
 
 // Whether an acquire or a release has to wait for the buffers of processor p.
-pub fn stuck(k: Buffering, log: [Logged; 48], logged: usize, locs: u8, q: u8, p: usize) -> bool
+fn stuck(k: Buffering, log: [Logged; 48], logged: usize, locs: u8, q: u8, p: usize) -> bool
     requires { ⌜ (p < 4) × (locs ≤ 8) × (logged ≤ 48) × (length log ≡ 48) ⌝ }
     ensures { λ r. ⌜ r ≡ (syncs q && someBelow locs (λ b. filled (bufferOf k log logged p b))) ⌝ }
 {
@@ -113,7 +113,7 @@ pub fn stuck(k: Buffering, log: [Logged; 48], logged: usize, locs: u8, q: u8, p:
 }
 
 // Whether instruction i of processor p, inside its program, is barred.
-pub fn bars(k: Buffering, s: Arrays, locs: u8, p: usize, i: Instr) -> bool
+fn bars(k: Buffering, s: Arrays, locs: u8, p: usize, i: Instr) -> bool
     requires { ⌜ (p < 4) × (locs ≤ 8) × (s .logged ≤ 48) × (length (s .log) ≡ 48) × (length (s .values) ≡ 32) × (length (s .holders) ≡ 8) ⌝ }
     ensures { λ r. ⌜ r ≡ barsBy k s locs p i ⌝ }
 {
@@ -197,7 +197,7 @@ pub fn drain_at(c: Case, k: Buffering, s: Arrays, p: usize, b: usize) -> u8
 }
 
 // The registers with v in the one that instruction i of processor p assigns.
-pub fn assign(values: [Value; 32], p: usize, i: Instr, v: u16) -> [Value; 32]
+fn assign(values: [Value; 32], p: usize, i: Instr, v: u16) -> [Value; 32]
     requires { ⌜ (p < 4) × (length values ≡ 32) ⌝ }
     ensures { λ r. ⌜ r ≡ assignBy values p (assignedBy i) v ⌝ }
 {
@@ -213,7 +213,7 @@ pub fn assign(values: [Value; 32], p: usize, i: Instr, v: u16) -> [Value; 32]
 }
 
 // The place after instruction i, whose first register holds x.
-pub fn follow(i: Instr, place: u8, x: u16) -> u8
+fn follow(i: Instr, place: u8, x: u16) -> u8
     requires { ⌜ place < 12 ⌝ }
     ensures { λ r. ⌜ r ≡ followBy i place x ⌝ }
 {
@@ -230,7 +230,7 @@ pub fn follow(i: Instr, place: u8, x: u16) -> u8
 }
 
 // What a read by processor p takes at location x; of another kind nothing.
-pub fn value_read(k: Buffering, s: Arrays, q: u8, p: usize, x: u16) -> u16
+fn value_read(k: Buffering, s: Arrays, q: u8, p: usize, x: u16) -> u16
     requires { ⌜ (s .logged ≤ 48) × (length (s .log) ≡ 48) × (length (s .memory) ≡ 8) ⌝ }
     ensures { λ r. ⌜ ((c : TheCase) → q ≡ 1 → x < 8 → r ≡ seenOf k (shown k c s) p x) ⌝ }
 {
@@ -244,7 +244,7 @@ pub fn value_read(k: Buffering, s: Arrays, q: u8, p: usize, x: u16) -> u16
 }
 
 // The machine after a store of v to location l by processor p: in memory, or in the log.
-pub fn stored(k: Buffering, s: Arrays, p: usize, l: usize, v: u16) -> Arrays
+fn stored(k: Buffering, s: Arrays, p: usize, l: usize, v: u16) -> Arrays
     requires { ⌜ (p < 4) × (l < 8) × (s .logged < 48) × (length (s .log) ≡ 48) × (length (s .memory) ≡ 8) ⌝ }
     ensures { λ r. ⌜ r ≡ storedBy k s p l v ⌝ }
 {
@@ -266,7 +266,7 @@ pub fn stored(k: Buffering, s: Arrays, p: usize, l: usize, v: u16) -> Arrays
 }
 
 // The same where the kind is a write's.
-pub fn written(k: Buffering, s: Arrays, q: u8, p: usize, x: u16, y: u16) -> Arrays
+fn written(k: Buffering, s: Arrays, q: u8, p: usize, x: u16, y: u16) -> Arrays
     requires { ⌜ (p < 4) × (s .logged < 48) × (length (s .log) ≡ 48) × (length (s .memory) ≡ 8) ⌝ }
     ensures { λ r. ⌜ r ≡ writtenBy k s q p x y ⌝ }
 {
@@ -319,7 +319,7 @@ pub fn drain(c: Case, k: Buffering, s: Arrays, p: usize, b: usize) -> Arrays
 }
 
 // What each register starts with.
-pub fn presets(c: Case) -> [Value; 32]
+fn presets(c: Case) -> [Value; 32]
     requires { ⌜ Fit c ⌝ }
     ensures { λ r. ⌜ (length r ≡ 32) × ((n : ℕ) → n < 32 → shownValue (getD r n unknown) ≡ presetOf c (n / 8) (n % 8)) ⌝ }
 {
@@ -376,7 +376,7 @@ pub fn ended(c: Case, s: Arrays) -> bool
 }
 
 // What register n, counted over all processors, holds; that of an absent processor nothing.
-pub fn register(procs: u8, values: [Value; 32], n: usize) -> Value
+fn register(procs: u8, values: [Value; 32], n: usize) -> Value
     requires { ⌜ (n < 32) × (length values ≡ 32) ⌝ }
     ensures { λ r. ⌜ shownValue r ≡ cond (ltb (n / 8) procs) (shownValue (getD values n unknown)) none ⌝ }
 {

@@ -43,14 +43,14 @@ fn code_of(c: Case, m: Machine, kind: u8, proc: u8, action: u8, source: u8) -> u
 }
 
 // Whether a code names an instruction.
-pub fn names(code: u8) -> bool
+fn names(code: u8) -> bool
     ensures { λ r. ⌜ r ≡ naming code ⌝ }
 {
     ((23 <= code) & (code <= 25)) | ((27 <= code) & (code <= 32))
 }
 
 // The place that goes with the code of a step: of an issue the place counter, of a commit the action's; 255 where the code names none.
-pub fn place_of(c: Case, m: Machine, kind: u8, proc: u8, action: u8, source: u8, code: u8) -> u8
+fn place_of(c: Case, m: Machine, kind: u8, proc: u8, action: u8, source: u8, code: u8) -> u8
     requires { ⌜ Valid c m × (code ≡ stepCode c (shown c m) (stepOf kind proc action source)) ⌝ }
     ensures { λ r. ⌜ r ≡ stepPlace c (shown c m) (stepOf kind proc action source) ⌝ }
 {

@@ -30,7 +30,7 @@ pub fn buffer_of(k: Buffering, l: u8) -> u8
 }
 
 // Whether a store waits in buffer b of processor p.
-pub fn sits(k: Buffering, x: Logged, p: usize, b: usize) -> bool
+fn sits(k: Buffering, x: Logged, p: usize, b: usize) -> bool
     requires { ⌜ b < 8 ⌝ }
     ensures { λ r. ⌜ r ≡ sitsIn k p b x ⌝ }
 {
@@ -89,7 +89,7 @@ pub fn holding(k: Buffering, log: [Logged; 48], logged: usize, locs: u8, p: usiz
 }
 
 // A value, or an older one where it is not there.
-pub fn newer(there: bool, x: u16, old: Value) -> Value
+fn newer(there: bool, x: u16, old: Value) -> Value
     ensures { λ r. ⌜ r ≡ newerBy there x old ⌝ }
 {
     if there {

@@ -17,7 +17,7 @@ ghost use Rattle.waiting.specs.Behind.{behind as behindOf};
 ghost use Rattle.waiting.specs.Why.{IsWhy};
 
 // The number of the oldest queued action of processor p; that of the issued actions where there is none.
-pub fn oldest(acts: [Entry; 48], issued: usize, p: usize) -> usize
+fn oldest(acts: [Entry; 48], issued: usize, p: usize) -> usize
     requires { ⌜ (issued ≤ 48) × (length acts ≡ 48) ⌝ }
     ensures { λ r. ⌜ ((c : TheCase) (s : State) → Acts c issued acts s → r ≡ oldestOf s p) ⌝ }
 {
@@ -33,7 +33,7 @@ pub fn oldest(acts: [Entry; 48], issued: usize, p: usize) -> usize
 }
 
 // The reason behind a code of an oldest action's commit.
-pub fn behind(code: u8, acquire: bool) -> u8
+fn behind(code: u8, acquire: bool) -> u8
     ensures { λ r. ⌜ r ≡ behindOf code acquire ⌝ }
 {
     if code == 29 {
@@ -52,7 +52,7 @@ pub fn behind(code: u8, acquire: bool) -> u8
 }
 
 // Why processor p waits: 0 nothing is queued, 1 its oldest action may commit, 2 to 5 the cause.
-pub fn reason(c: Case, m: Machine, p: usize) -> u8
+fn reason(c: Case, m: Machine, p: usize) -> u8
     requires { ⌜ Valid c m × (p < 4) ⌝ }
     ensures { λ r. ⌜ r ≡ reasonOf c (shown c m) p ⌝ }
 {
@@ -69,7 +69,7 @@ pub fn reason(c: Case, m: Machine, p: usize) -> u8
 }
 
 // The same, 0 of an absent processor.
-pub fn reason_byte(c: Case, m: Machine, p: usize) -> u8
+fn reason_byte(c: Case, m: Machine, p: usize) -> u8
     requires { ⌜ Valid c m × (p < 4) ⌝ }
     ensures { λ r. ⌜ r ≡ cond (ltb p (c .procs)) (reasonOf c (shown c m) p) 0 ⌝ }
 {
@@ -80,7 +80,7 @@ pub fn reason_byte(c: Case, m: Machine, p: usize) -> u8
 }
 
 // Writes the reasons of a machine into a buffer of 4 bytes.
-pub fn show(c: Case, m: Machine, causes: &mut [u8])
+fn show(c: Case, m: Machine, causes: &mut [u8])
     requires { ⌜ Valid c m × (length (now causes) ≡ 4) ⌝ }
     ensures { λ _. ⌜ now (causes .exit) ≡ reasons c (shown c m) ⌝ }
 {
