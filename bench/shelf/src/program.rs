@@ -2,21 +2,21 @@ use std::fs::File;
 use std::io::{self, Write};
 use std::os::fd::OwnedFd;
 use std::os::unix::net::UnixDatagram;
-use std::path::PathBuf;
 use std::process::{Child, Command, Stdio};
 
-/// The proved program.
+/// The proved program: the command that runs it, word by word.
 pub struct Program {
-    path: PathBuf,
+    command: Vec<String>,
 }
 
 impl Program {
-    pub fn new(path: impl Into<PathBuf>) -> Program {
-        Program { path: path.into() }
+    /// `command` has a first word.
+    pub fn new(command: Vec<String>) -> Program {
+        Program { command }
     }
 
     fn start(&self, input: Stdio) -> io::Result<Child> {
-        Command::new(&self.path).stdin(input).stdout(Stdio::piped()).spawn()
+        Command::new(&self.command[0]).args(&self.command[1..]).stdin(input).stdout(Stdio::piped()).spawn()
     }
 
     /// What it prints of a file.

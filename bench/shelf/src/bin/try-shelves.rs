@@ -1,4 +1,4 @@
-//! `try-shelves PROGRAM` runs the proved program on shelves that are made here, through files, pipes and pieces of any
+//! `try-shelves COMMAND` runs the proved program on shelves that are made here, through files, pipes and pieces of any
 //! length, and compares all that it prints with the plain count.
 
 use std::fs::{self, File};
@@ -11,11 +11,12 @@ use shelf::{all_accepted, every_code, random, report, Program};
 const MOST: usize = 65_535;
 
 fn main() -> io::Result<()> {
-    let Some(path) = env::args().nth(1) else {
-        eprintln!("usage: try-shelves PROGRAM");
+    let command: Vec<String> = env::args().skip(1).collect();
+    if command.is_empty() {
+        eprintln!("usage: try-shelves COMMAND [WORD ...]");
         process::exit(2);
-    };
-    let program = Program::new(path);
+    }
+    let program = Program::new(command);
     let tried = long_files(&program)? + pipes(&program)? + pieces(&program)?;
     println!("shelves: {tried} tried, all printed as counted");
     Ok(())
