@@ -12,6 +12,7 @@ use Rattle.cases.specs.declared.CaseRead.{CaseRead}
 use Rattle.cases.specs.Block.{readOf}
 use Rattle.cases.proofs.Told.{read-code, read-as, read-sound, accepted-position}
 use Rattle.runs.specs.Listing.{Listed, Refused}
+use Rattle.runs.proofs.Unique.{refused-unique}
 use Rattle.machine.specs.Fit.{Fit}
 use Rattle.machine.proofs.Fits.{fit}
 use Rattle.boards.specs.declared.Buffering.{Buffering}
@@ -72,10 +73,6 @@ module _ (k : Buffering) (block : List ℕ) {r : CaseRead} (read : r ≡ readOf 
           unsound = λ h. absurd (omega (arith, e));
           position = q ∙ sym (accepted-position block (sym (read-code block read) ∙ z));
         }
-
-refused-unique : (why size : ℕ) (a b : Listed) (out buf : List ℕ) → Refused why size a out → Refused why size b buf → (a ≡ b) × (out ≡ buf)
-refused-unique why size a b out buf x y =
-    (λ i. record { code = (x .code ∙ sym (y .code)) i; count = (x .count ∙ sym (y .count)) i; cut = (x .cut ∙ sym (y .cut)) i }, x .bytes ∙ sym (y .bytes))
 
 -- AT MOST ONE ANSWER
 pub outcomes-unique : (k : Buffering) (block : List ℕ) (bound size : ℕ) (a b : Listed) (at at′ : ℕ) (out buf : List ℕ) → IsBoardOutcomes k block bound size a at out → IsBoardOutcomes k block bound size b at′ buf → (a ≡ b) × (at ≡ at′) × (out ≡ buf)

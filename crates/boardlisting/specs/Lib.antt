@@ -3,3 +3,4 @@ pub mod Moves
 pub mod Searched
 pub mod Spent
 pub mod Ready
+pub mod Given

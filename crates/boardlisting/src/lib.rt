@@ -5,21 +5,16 @@ use cases::Case;
 use running::Arrays;
 ghost use mathlib.Core.Path.{_≡_};
 ghost use mathlib.Core.Bool.{true, false};
-ghost use Prim.Native.Nat.{ℕ, _+_, _-_, _≤_, _<_};
+ghost use Prim.Native.Nat.{ℕ, _<_};
 ghost use lib.ListN.{length};
-ghost use Rattle.runs.specs.Listing.{Refused};
-ghost use Rattle.records.specs.Buffer.{Held};
-ghost use Rattle.machine.specs.Fit.{Fit};
 ghost use Rattle.words.specs.Sets.{has as inSet};
-ghost use Rattle.boards.specs.Machine.{Move, allowed, moved, ended};
-ghost use Rattle.boards.specs.Apart.{apart as isApart};
-ghost use Rattle.stores.specs.Log.{Waits};
-ghost use Rattle.boards.specs.Listing.{IsBoardList};
+ghost use Rattle.boards.specs.Machine.{Move};
 ghost use Rattle.running.specs.Shown.{shown};
 ghost use Rattle.running.specs.Valid.{Valid};
 ghost use Rattle.boardlisting.specs.Moves.{moveAt, leftBy, openAt, SureAt, firstPosition, lastPosition};
 ghost use Rattle.boardlisting.specs.Spent.{Touched, apartBy, Kept};
 ghost use Rattle.boardlisting.specs.Ready.{Ready};
+ghost use Rattle.boardlisting.specs.Given.{Opening, Touching, Taking, Taken, Sparing, Spared, Keeping, Finishing, Searching, Found, RefusedAt};
 ghost use Rattle.boardlisting.specs.Searched.{Searched};
 ghost use Rattle.boardlisting.specs.Outcomes.{machineOf, answerOf, IsBoardOutcomes};
 
@@ -62,7 +57,7 @@ pub struct Touch {
 
 // Whether the move at position i is open: 0 to 3 run a processor's next instruction, 4 + 8p + b drains buffer b of processor p.
 fn is_open(c: Case, k: Buffering, s: Arrays, waits: u64, done: u64, i: usize) -> bool
-    requires { ⌜ Valid c s × (i < 36) × Waits k (s .log) (s .logged) waits ⌝ }
+    requires { ⌜ Opening k c s waits i ⌝ }
     ensures { λ r. ⌜ r ≡ openAt k c (shown k c s) done i ⌝ }
 {
     if words::has(done, i) {
@@ -80,8 +75,8 @@ fn is_open(c: Case, k: Buffering, s: Arrays, waits: u64, done: u64, i: usize) ->
 
 // The machine after the move at position i, which may be taken.
 fn take(c: Case, k: Buffering, s: Arrays, i: usize) -> Arrays
-    requires { ⌜ Valid c s × (i < 36) × (s .logged < 48) × (allowed k c (shown k c s) (moveAt i) ≡ true) ⌝ }
-    ensures { λ r. ⌜ (shown k c r ≡ moved k c (shown k c s) (moveAt i)) × Valid c r × ((n : ℕ) → 0 < n → s .logged + n ≤ 48 → r .logged + leftBy i n ≤ 48) ⌝ }
+    requires { ⌜ Taking k c s i ⌝ }
+    ensures { λ r. ⌜ Taken k c s i r ⌝ }
 {
     if i < 4 {
         return running::run(c, k, s, i);
@@ -103,7 +98,7 @@ fn left_after(i: usize, n: usize) -> usize
 
 // What the move at position i, which may be taken, touches.
 fn touched(c: Case, k: Buffering, s: Arrays, i: usize) -> Touch
-    requires { ⌜ Valid c s × (i < 36) × (allowed k c (shown k c s) (moveAt i) ≡ true) ⌝ }
+    requires { ⌜ Touching k c s i ⌝ }
     ensures { λ r. ⌜ Touched k c (shown k c s) (moveAt i) r ⌝ }
 {
     if i < 4 {
@@ -140,8 +135,8 @@ fn apart(m: Touch, z: Touch) -> bool
 
 // Position i alone, if it is done and its move is apart from one that touches m; else nothing.
 fn spared(c: Case, k: Buffering, s: Arrays, done: u64, m: Touch, i: usize) -> u64
-    requires { ⌜ Valid c s × (i < 36) × (inSet done i ≡ true → allowed k c (shown k c s) (moveAt i) ≡ true) ⌝ }
-    ensures { λ r. ⌜ ((move : Move) → Touched k c (shown k c s) move m → (j : ℕ) → inSet r j ≡ true → (j ≡ i) × (inSet done i ≡ true) × (isApart k c (shown k c s) move (moveAt i) ≡ true)) ⌝ }
+    requires { ⌜ Sparing k c s done i ⌝ }
+    ensures { λ r. ⌜ ((move : Move) → Touched k c (shown k c s) move m → (j : ℕ) → inSet r j ≡ true → Spared k c (shown k c s) move done i j) ⌝ }
 {
     if words::has(done, i) {
         if apart(m, touched(c, k, s, i)) {
@@ -153,7 +148,7 @@ fn spared(c: Case, k: Buffering, s: Arrays, done: u64, m: Touch, i: usize) -> u6
 
 // Of the moves that are done, those that stay spent after the move at position i: all after a sure instruction, else those apart from it.
 fn kept(c: Case, k: Buffering, s: Arrays, sure: usize, done: u64, i: usize) -> u64
-    requires { ⌜ Valid c s × (i < 36) × (allowed k c (shown k c s) (moveAt i) ≡ true) × ((j : ℕ) → inSet done j ≡ true → allowed k c (shown k c s) (moveAt j) ≡ true) ⌝ }
+    requires { ⌜ Keeping k c s done i ⌝ }
     ensures { λ r. ⌜ Kept k c (shown k c s) sure done i r ⌝ }
 {
     if sure < 4 {
@@ -187,7 +182,7 @@ fn sure_run(c: Case, k: Buffering, s: Arrays) -> usize
 
 // At the end of every program: the registers go in at their place.
 fn finish(c: Case, k: Buffering, s: Arrays, out: &mut [u8], tally: Tally) -> Tally
-    requires { ⌜ Valid c s × Held (now out) (tally .count) × (ended c (shown k c s) ≡ true) ⌝ }
+    requires { ⌜ Finishing k c s (now out) (tally .count) ⌝ }
     ensures { λ r. ⌜ ((n : ℕ) → Searched k c (shown k c s) n (now (out .entry)) tally (now (out .exit)) r) ⌝ }
 {
     let put = records::insert(out, tally.count, running::registers(c, s));
@@ -273,7 +268,7 @@ fn explore(
 
 // Refuses with a code and its position: the buffer is all zeros.
 fn refuse(code: u8, position: usize, buffer: &mut [u8]) -> Answer
-    ensures { λ r. ⌜ Refused code (length (now (buffer .entry))) (answerOf r) (now (buffer .exit)) × (r .position ≡ position) ⌝ }
+    ensures { λ r. ⌜ RefusedAt code position (length (now (buffer .entry))) r (now (buffer .exit)) ⌝ }
 {
     records::clear(buffer);
     Answer {
@@ -286,8 +281,8 @@ fn refuse(code: u8, position: usize, buffer: &mut [u8]) -> Answer
 
 // The outcomes of a case on machine k within n instructions.
 fn search(c: Case, k: Buffering, n: usize, out: &mut [u8]) -> Answer
-    requires { ⌜ Fit c × (n ≤ 48) ⌝ }
-    ensures { λ r. ⌜ IsBoardList k c n (length (now (out .entry))) (answerOf r) (now (out .exit)) × (r .position ≡ 0) ⌝ }
+    requires { ⌜ Searching c n ⌝ }
+    ensures { λ r. ⌜ Found k c n (length (now (out .entry))) r (now (out .exit)) ⌝ }
 {
     records::clear(out);
     let empty = Tally {

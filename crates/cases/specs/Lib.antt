@@ -3,3 +3,4 @@ pub mod Block
 pub mod Instruction
 pub mod Putting
 pub mod Formed
+pub mod Given

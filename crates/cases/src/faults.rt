@@ -1,15 +1,13 @@
 // Which bytes of a block are bad for codes 3 to 7 and 19, and the first code with its lowest bad position.
 use crate::Fault;
-use crate::bytes::byte;
 use crate::bytes::number;
 use crate::bytes::word;
 ghost use mathlib.Core.Path.{_≡_};
-ghost use mathlib.Core.Bool.{false};
-ghost use mathlib.Core.List.{List};
-ghost use Prim.Native.Nat.{ℕ, _-_, _≤_, _<_};
+ghost use Prim.Native.Nat.{_-_, _≤_, _<_};
 ghost use Rattle.words.specs.Refusals.{firstOf};
 ghost use Rattle.cases.specs.Instruction.{badField, fieldAt, fieldOf};
 ghost use Rattle.cases.specs.Block.{within as withinOf, marked as isMarked, noProc, noLoc, used as isUsed, bad3 as isBad3, bad4 as isBad4, zero5 as mustBeZero5, bad5 as isBad5, badByte, bad6 as isBad6, bad7 as isBad7, assignsAt, isSet, readsAt, bad19 as isBad19, bad as isBad, lowest as lowestOf, faults, faultOf};
+ghost use Rattle.cases.specs.Given.{StartOf, EndOf};
 
 // How far position i lies past another, 0 before it.
 fn past(from: usize, i: usize) -> usize
@@ -32,7 +30,7 @@ fn within(from: usize, to: usize, i: usize) -> bool
 fn marked(block: &[u8], i: usize) -> bool
     ensures { λ r. ⌜ r ≡ isMarked (now (block .entry)) i ⌝ }
 {
-    !(byte(block, i) == 0)
+    !(words::byte(block, i) == 0)
 }
 
 // Processor p is absent.
@@ -287,7 +285,7 @@ fn bad(block: &[u8], code: u8, i: usize) -> bool
 // The first position that a code speaks of.
 fn start_of(code: u8) -> usize
     requires { ⌜ 3 ≤ code ⌝ }
-    ensures { λ r. ⌜ (r ≤ 510) × ((s : List ℕ) (k : ℕ) → k < r → isBad s code k ≡ false) ⌝ }
+    ensures { λ r. ⌜ StartOf code r ⌝ }
 {
     match code {
         3 => 0,
@@ -300,7 +298,7 @@ fn start_of(code: u8) -> usize
 // The first position after those that a code speaks of.
 fn end_of(code: u8) -> usize
     requires { ⌜ 3 ≤ code ⌝ }
-    ensures { λ r. ⌜ (r ≤ 510) × ((s : List ℕ) (k : ℕ) → r ≤ k → k < 510 → isBad s code k ≡ false) ⌝ }
+    ensures { λ r. ⌜ EndOf code r ⌝ }
 {
     match code {
         3 => 4,

@@ -4,6 +4,7 @@ mod faults;
 mod reading;
 mod writing;
 
+pub use bytes::number;
 ghost use mathlib.Core.Path.{_≡_};
 ghost use lib.ListN.{length};
 ghost use Rattle.cases.specs.Block.{readOf, sealFault, sealed, writeFault, written};

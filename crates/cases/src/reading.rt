@@ -4,7 +4,6 @@ use crate::Expr;
 use crate::Fault;
 use crate::Instr;
 use crate::Slot;
-use crate::bytes::byte;
 use crate::bytes::check;
 use crate::bytes::number;
 use crate::bytes::word;
@@ -64,10 +63,10 @@ fn slot(block: &[u8], n: usize) -> Slot
     let k = word(block, i + 4) as u16;
     Slot {
         instr: instr_of(
-            byte(block, i),
-            byte(block, i + 1),
-            byte(block, i + 2),
-            byte(block, i + 3),
+            words::byte(block, i),
+            words::byte(block, i + 1),
+            words::byte(block, i + 2),
+            words::byte(block, i + 3),
             k,
         ),
     }
@@ -115,10 +114,10 @@ fn read_four(block: &[u8], at: usize) -> [u8; 4]
     ensures { λ r. ⌜ r ≡ each 4 (λ (p : ℕ). byteOf (now (block .entry)) (at + p)) ⌝ }
 {
     [
-        byte(block, at),
-        byte(block, at + 1),
-        byte(block, at + 2),
-        byte(block, at + 3),
+        words::byte(block, at),
+        words::byte(block, at + 1),
+        words::byte(block, at + 2),
+        words::byte(block, at + 3),
     ]
 }
 
@@ -126,7 +125,7 @@ fn read_four(block: &[u8], at: usize) -> [u8; 4]
 pub fn usual(block: &[u8]) -> bool
     ensures { λ r. ⌜ r ≡ marked (now (block .entry)) 2 ⌝ }
 {
-    !(byte(block, 2) == 0)
+    !(words::byte(block, 2) == 0)
 }
 
 // The case that the block holds.
@@ -138,8 +137,8 @@ pub fn case_of(block: &[u8]) -> Case
     let mut memory = [0u16; 8];
     read_words(block, 76, &mut memory);
     Case {
-        procs: byte(block, 0),
-        locs: byte(block, 1),
+        procs: words::byte(block, 0),
+        locs: words::byte(block, 1),
         counts: read_four(block, 4),
         masks: read_four(block, 8),
         presets,

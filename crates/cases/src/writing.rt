@@ -6,12 +6,13 @@ use crate::Slot;
 use crate::bytes::check;
 ghost use mathlib.Core.Path.{_≡_};
 ghost use mathlib.Core.List.{_++_};
-ghost use Prim.Native.Nat.{_+_, _*_, _-_, _≤_, _<_};
+ghost use Prim.Native.Nat.{_+_, _-_, _≤_};
 ghost use lib.ListN.{length, take, replicate};
 ghost use Rattle.words.specs.Small.{concatMap};
 ghost use Rattle.cases.specs.Instruction.{two as twoOf, six as sixOf, localBytes, instrBytes};
 ghost use Rattle.cases.specs.Block.{slotBytes, contents, unbounded, check as checkOf};
 ghost use Rattle.cases.specs.Putting.{Put};
+ghost use Rattle.cases.specs.Given.{PuttingWords, FilledWith};
 
 // A two-byte number, low byte first.
 fn two(n: u16) -> [u8; 2]
@@ -81,7 +82,7 @@ fn put(block: &mut [u8], at: usize, bytes: &[u8])
 
 // Words put at a position, two bytes each.
 fn put_words(block: &mut [u8], at: usize, words: &[u16])
-    requires { ⌜ (at + 2 * length (now words) ≤ length (now block)) × (length (now block) ≡ 512) ⌝ }
+    requires { ⌜ PuttingWords (now block) at (now words) ⌝ }
     ensures { λ _. ⌜ Put (now (block .entry)) at (concatMap twoOf (now (words .entry))) (now (block .exit)) ⌝ }
 {
     let mut i: usize = 0;
@@ -123,7 +124,7 @@ fn put_head(case: Case, block: &mut [u8])
 // Bytes 0 to 509 of the block that holds a case.
 pub fn fill(case: Case, block: &mut [u8])
     requires { ⌜ length (now block) ≡ 512 ⌝ }
-    ensures { λ _. ⌜ (take 510 (now (block .exit)) ≡ contents case) × (length (now (block .exit)) ≡ 512) ⌝ }
+    ensures { λ _. ⌜ FilledWith case (now (block .exit)) ⌝ }
 {
     put_head(case, block);
     let presets = case.presets;

@@ -23,7 +23,7 @@ fn spells(high: u8, low: u8, v: u16) -> bool
 }
 
 // Whether one clause holds of an outcome.
-pub fn holds(c: Clause, outcome: &[u8]) -> bool
+fn holds(c: Clause, outcome: &[u8]) -> bool
     requires { ⌜ (length (now outcome) ≡ 96) × Named c ⌝ }
     ensures { λ r. ⌜ r ≡ holdsIn c (now (outcome .entry)) ⌝ }
 {
@@ -43,7 +43,7 @@ pub fn holds(c: Clause, outcome: &[u8]) -> bool
 }
 
 // What a turn of `meets` computes.
-pub fn and_holds(met: bool, c: Clause, outcome: &[u8]) -> bool
+fn and_holds(met: bool, c: Clause, outcome: &[u8]) -> bool
     requires { ⌜ (length (now outcome) ≡ 96) × Named c ⌝ }
     ensures { λ r. ⌜ r ≡ (met && holdsIn c (now (outcome .entry))) ⌝ }
 {
@@ -51,7 +51,7 @@ pub fn and_holds(met: bool, c: Clause, outcome: &[u8]) -> bool
 }
 
 // The thin function: whether every clause of the lent slice holds of the outcome.
-pub fn meets<'c, 'o>(clauses: &'c [Clause], outcome: &'o [u8]) -> bool
+fn meets<'c, 'o>(clauses: &'c [Clause], outcome: &'o [u8]) -> bool
     requires { ⌜ (length (now outcome) ≡ 96) × AllNamed (now clauses) ⌝ }
     ensures { λ r. ⌜ r ≡ meetsAll (now (clauses .entry)) (now (outcome .entry)) ⌝ }
 {
@@ -71,7 +71,7 @@ pub struct Asked {
 }
 
 // The thin function's caller where the clauses are held by value: it lends the first n of them. A walk with no loop, whose callers are covered.
-pub fn meets_first(cs: [Clause; 8], n: usize, outcome: &[u8]) -> bool
+fn meets_first(cs: [Clause; 8], n: usize, outcome: &[u8]) -> bool
     requires { ⌜ (length (now outcome) ≡ 96) × (n ≤ 8) × AllNamed (take n cs) ⌝ }
     ensures { λ r. ⌜ r ≡ meetsAll (take n cs) (now (outcome .entry)) ⌝ }
 {

@@ -31,6 +31,7 @@ use Rattle.handoffs.specs.Plans.{touching, legal, fresh, locks, sends, r
 use Rattle.handoffs.specs.Verdict.{holds, staleIn, Stale, Stuck, Safe, Handed, IsVerdict, Refused, handoffRefusals, IsHandoff}
 use Rattle.handoffs.specs.Inner.{planOf, passing, fourAt, freshTwo, freshThree, freshFour, noCode, receiverCode, presetsOf, readyAt, touchedBy, clauseOf, askedFor, IsLow, Level, orElse, Improved, ImprovedTwice, staleAt, staleAny, Few, anyOutcome}
 use Rattle.handoffs.proofs.Either.{kept-none, taken-first, kept-lower, taken-lower, low-same}
+use Rattle.handoffs.specs.Given.{Short}
 use Rattle.handoffs.proofs.Shapes.{Legal, legal-parts, few-long, legal-shape, senderCode, case-shape, stale-shape}
 use Rattle.handoffs.proofs.Fitting.{fit, bound-small, level, few}
 use Rattle.handoffs.proofs.Verdicts.{Finishes, finishes-not-stuck, stuck-not-finishes, stale-not-stuck}
@@ -106,10 +107,10 @@ receiver-by code p {two} {three} {four} x y z a b d e =
     14 (slotOf (receives (record { byte = p .third; register = u i }))))
     15 (slotOf (receives (record { byte = p .fourth; register = v i }))))
 
-pub case-by : (s r : List ℕ) {p q : Plan} {pre : List ℕ} {first code : List Slot} → (length s ≤ 4) × (length r ≤ 4) → p ≡ planOf s → q ≡ planOf r → pre ≡ presetsOf → first ≡ senderCode p → code ≡ receiverCode first q
+pub case-by : (s r : List ℕ) {p q : Plan} {pre : List ℕ} {first code : List Slot} → Short s r → p ≡ planOf s → q ≡ planOf r → pre ≡ presetsOf → first ≡ senderCode p → code ≡ receiverCode first q
     → record { procs = 2; locs = 5; counts = p .count ∷ q .count ∷ 0 ∷ 0 ∷ []; masks = 31 ∷ 31 ∷ 0 ∷ 0 ∷ []; presets = pre; memory = replicate 8 0; code = code } ≡ caseFor s r
-case-by s r {p} {q} {pre} {first} {code} few e f g h k =
-    (λ i. record { procs = 2; locs = 5; counts = e i .count ∷ f i .count ∷ 0 ∷ 0 ∷ []; masks = 31 ∷ 31 ∷ 0 ∷ 0 ∷ []; presets = g i; memory = replicate 8 0; code = (k ∙ (λ j. receiverCode ((h ∙ ap senderCode e) j) (f j))) i }) ∙ case-shape s r (few .0) (few .1)
+case-by s r {p} {q} {pre} {first} {code} short e f g h k =
+    (λ i. record { procs = 2; locs = 5; counts = e i .count ∷ f i .count ∷ 0 ∷ 0 ∷ []; masks = 31 ∷ 31 ∷ 0 ∷ 0 ∷ []; presets = g i; memory = replicate 8 0; code = (k ∙ (λ j. receiverCode ((h ∙ ap senderCode e) j) (f j))) i }) ∙ case-shape s r (short .sender) (short .receiver)
 
 -- where ready is read
 pub ready-1 : (p : Plan) → p .first ≡ 3 → (5 ≡ readyAt p) × (5 ≤ 8)

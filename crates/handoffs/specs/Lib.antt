@@ -1,3 +1,4 @@
 pub mod Plans
 pub mod Verdict
 pub mod Inner
+pub mod Given

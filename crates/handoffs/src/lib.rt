@@ -6,20 +6,19 @@ use clauses::Asked;
 use clauses::Clause;
 ghost use mathlib.Core.Path.{_≡_};
 ghost use mathlib.Core.Logic.{_↔_};
-ghost use mathlib.Core.Bool.{true, false, cond};
-ghost use mathlib.Core.List.{List};
-ghost use Prim.Native.Nat.{ℕ, _+_, _≤_, _<_};
+ghost use mathlib.Core.Bool.{true, cond};
+ghost use Prim.Native.Nat.{_+_, _≤_, _<_};
 ghost use lib.Dec.{eqb, ltb};
-ghost use lib.ListN.{length, getD, set, replicate};
-ghost use Rattle.clauses.specs.Wanted.{wanted, Askable};
+ghost use lib.ListN.{length, getD, set};
+ghost use Rattle.clauses.specs.Wanted.{wanted};
 ghost use Rattle.rules.specs.State.{initial};
 ghost use Rattle.rules.specs.Womm.{womm};
 ghost use Rattle.rules.specs.Building.{slotOf};
-ghost use Rattle.machine.specs.Fit.{Fit};
 ghost use Rattle.runs.specs.Wanted.{WantedFrom};
 ghost use Rattle.handoffs.specs.Plans.{legal as isLegal, fresh as isFresh, locks as lockOf, sends as sendOf, receives as receiveOf, caseFor};
 ghost use Rattle.handoffs.specs.Verdict.{IsVerdict, Refused, IsHandoff};
-ghost use Rattle.handoffs.specs.Inner.{handedOf, planOf, passing, fourAt, noCode, receiverCode, presetsOf, readyAt, touchedBy, askedFor, clauseOf, IsLow, Level, Improved, ImprovedTwice, Few, staleAt, staleAny, anyOutcome};
+ghost use Rattle.handoffs.specs.Inner.{handedOf, planOf, passing, fourAt, noCode, receiverCode, presetsOf, readyAt, touchedBy, askedFor, clauseOf, IsLow, Improved, ImprovedTwice, staleAt, staleAny, anyOutcome};
+ghost use Rattle.handoffs.specs.Given.{Short, Bounded, Improving, Considering, ConsideringTwo, Comparing, Judging};
 
 // The code, the verdict (0 safe, 1 stale, 2 stuck; 0 with a refusal) and the schedule's length in bytes.
 pub struct Answer {
@@ -253,7 +252,7 @@ fn presets() -> [u16; 32]
 
 // The case of the two plans.
 fn case_for(sending: &[u8], receiving: &[u8]) -> Case
-    requires { ⌜ (length (now sending) ≤ 4) × (length (now receiving) ≤ 4) ⌝ }
+    requires { ⌜ Short (now sending) (now receiving) ⌝ }
     ensures { λ r. ⌜ r ≡ caseFor (now (sending .entry)) (now (receiving .entry)) ⌝ }
 {
     let s = plan_of(sending);
@@ -318,7 +317,7 @@ fn asked_for(ready: u8, other: u8) -> Asked
 
 // Asks for one outcome more, and keeps the lower of the two schedules.
 fn improve(c: Case, n: usize, asked: Asked, best: Found, out: &mut [u8]) -> Found
-    requires { ⌜ Fit c × (n ≤ 96) × Askable asked × Level c n × (length (now out) ≡ 384) ⌝ }
+    requires { ⌜ Improving c n asked (now out) ⌝ }
     ensures { λ r. ⌜ Improved c (wanted asked) n best (now (out .entry)) r (now (out .exit)) ⌝ }
 {
     let mut other = [0u8; 384];
@@ -354,7 +353,7 @@ fn consider(
     best: Found,
     out: &mut [u8],
 ) -> Found
-    requires { ⌜ Fit c × (n ≤ 96) × (ready < 8) × (d < 4 → k < 8) × Level c n × (length (now out) ≡ 384) ⌝ }
+    requires { ⌜ Considering c n ready d k (now out) ⌝ }
     ensures { λ r. ⌜ Improved c (staleAt sending ready d k) n best (now (out .entry)) r (now (out .exit)) ⌝ }
 {
     if touched_by(sending, d) {
@@ -376,7 +375,7 @@ fn consider_two(
     best: Found,
     out: &mut [u8],
 ) -> Found
-    requires { ⌜ Fit c × (n ≤ 96) × (ready < 8) × (d < 4 → k < 8) × (e < 4 → l < 8) × Level c n × (length (now out) ≡ 384) ⌝ }
+    requires { ⌜ ConsideringTwo c n ready d k e l (now out) ⌝ }
     ensures { λ r. ⌜ ImprovedTwice c (staleAt sending ready d k) (staleAt sending ready e l) n best (now (out .entry)) r (now (out .exit)) ⌝ }
 {
     let a = consider(c, n, sending, ready, d, k, best, out);
@@ -385,7 +384,7 @@ fn consider_two(
 
 // The lowest stale schedule of all the receiver's reads together.
 fn stalest(c: Case, n: usize, s: Plan, r: Plan, out: &mut [u8]) -> Found
-    requires { ⌜ Fit c × (n ≤ 96) × Few r × Level c n × (length (now out) ≡ 384) ⌝ }
+    requires { ⌜ Comparing c n r (now out) ⌝ }
     ensures { λ x. ⌜ IsLow c (staleAny s r) n x (now (out .exit)) ⌝ }
 {
     records::clear(out);
@@ -403,7 +402,7 @@ fn stalest(c: Case, n: usize, s: Plan, r: Plan, out: &mut [u8]) -> Found
 
 // Whether any run finishes.
 fn finishes(c: Case, n: usize) -> bool
-    requires { ⌜ Fit c × (n ≤ 96) ⌝ }
+    requires { ⌜ Bounded c n ⌝ }
     ensures { λ r. ⌜ (r ≡ true) ↔ WantedFrom (womm c) anyOutcome (initial c) n ⌝ }
 {
     let mut other = [0u8; 384];
@@ -413,7 +412,7 @@ fn finishes(c: Case, n: usize) -> bool
 
 // The answer for legal plans and a buffer of 384 bytes.
 fn judge(sending: &[u8], receiving: &[u8], out: &mut [u8]) -> Answer
-    requires { ⌜ (isLegal (now sending) (now receiving) ≡ true) × (length (now out) ≡ 384) ⌝ }
+    requires { ⌜ Judging (now sending) (now receiving) (now out) ⌝ }
     ensures { λ r. ⌜ IsVerdict (now (sending .entry)) (now (receiving .entry)) (handedOf r) (now (out .exit)) ⌝ }
 {
     let c = case_for(sending, receiving);

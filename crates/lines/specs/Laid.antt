@@ -1,7 +1,7 @@
 -- A text that is laid into a lent slice. Assumes nothing.
 use mathlib.Core.Path.{_≡_}
 use mathlib.Core.List.{List, [], _∷_, _++_}
-use Prim.Native.Nat.{ℕ, suc, _+_, min, max}
+use Prim.Native.Nat.{ℕ, suc, _+_, _≤_, min, max}
 use lib.ListN.{length, set, drop}
 
 -- The bytes with a text over them from a position on; what would stand past their end is left out.
@@ -17,6 +17,11 @@ behind bytes at text = max at (min (at + length text) (length bytes))
 pub record Laid (before : List ℕ) (at : ℕ) (text after : List ℕ) (end : ℕ) : Type 0 where
   pub bytes : after ≡ laid before at text
   pub ends : end ≡ behind before at text
+
+-- The same of a text of at most so many bytes.
+pub record LaidShort (most : ℕ) (before : List ℕ) (at : ℕ) (text after : List ℕ) (end : ℕ) : Type 0 where
+  pub laid : Laid before at text after end
+  pub short : length text ≤ most
 
 -- The whole text stands at the start of the bytes and ends where it says; what stands behind it is as it was.
 pub record Printed (text before after : List ℕ) (end : ℕ) : Type 0 where

@@ -5,7 +5,7 @@ ghost use mathlib.Core.Path.{_≡_};
 ghost use Prim.Native.Nat.{_≤_};
 ghost use lib.ListN.{length};
 ghost use Rattle.lines.specs.Answers.{ofBlock, ending as endingOf, headerLine, refusalLine, replayLine};
-ghost use Rattle.lines.specs.Laid.{Laid};
+ghost use Rattle.lines.specs.Laid.{Laid, LaidShort};
 
 // Whether a code is the block's.
 fn of_block(code: u8) -> bool
@@ -16,8 +16,7 @@ fn of_block(code: u8) -> bool
 
 // The end of a line: a block's code is followed by its position.
 fn ending(text: &mut [u8], at: usize, code: u8, position: usize) -> usize
-    ensures { λ r. ⌜ Laid (now (text .entry)) at (endingOf code position) (now (text .exit)) r ⌝ }
-    ensures { λ _. ⌜ length (endingOf code position) ≤ 25 ⌝ }
+    ensures { λ r. ⌜ LaidShort 25 (now (text .entry)) at (endingOf code position) (now (text .exit)) r ⌝ }
 {
     if of_block(code) {
         let behind_at = word(text, at, b" at ");
@@ -52,8 +51,7 @@ pub fn replay(text: &mut [u8], at: usize, code: u8, steps: usize, position: usiz
 
 // The header of a list: the count and the cut mark.
 pub fn header(text: &mut [u8], at: usize, count: usize, cut: bool) -> usize
-    ensures { λ r. ⌜ Laid (now (text .entry)) at (headerLine count cut) (now (text .exit)) r ⌝ }
-    ensures { λ _. ⌜ length (headerLine count cut) ≤ 38 ⌝ }
+    ensures { λ r. ⌜ LaidShort 38 (now (text .entry)) at (headerLine count cut) (now (text .exit)) r ⌝ }
 {
     let behind_word = word(text, at, b"outcomes ");
     let behind_count = decimal(text, behind_word, count);

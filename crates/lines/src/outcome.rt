@@ -2,24 +2,13 @@
 use crate::answers::header;
 use crate::laying::put;
 use crate::number::decimal;
-ghost use mathlib.Core.Path.{_≡_};
 ghost use Prim.Native.Nat.{_+_, _*_, _/_, _≤_, _<_};
-ghost use lib.ListN.{length, getD};
+ghost use lib.ListN.{length};
 ghost use Rattle.words.specs.Small.{concatMap};
 ghost use Rattle.records.specs.Buffer.{recordsIn};
-ghost use Rattle.lines.specs.Laid.{Laid};
+ghost use Rattle.lines.specs.Laid.{Laid, LaidShort};
 ghost use Rattle.lines.specs.Outcome.{gap as gapOf, register as registerOf, registers as registersOf, registerAt};
 ghost use Rattle.lines.specs.Outcome.{processor as processorOf, outcomeLine, listText};
-
-// The byte at position i, 0 past the end.
-fn byte(bytes: &[u8], i: usize) -> u8
-    ensures { λ r. ⌜ (r ≡ getD (now (bytes .entry)) i 0) × (r < 256) ⌝ }
-{
-    if i < bytes.len() {
-        return bytes[i];
-    }
-    0
-}
 
 // A register of three bytes.
 fn register(text: &mut [u8], at: usize, defined: u8, high: u8, low: u8) -> usize
@@ -34,22 +23,20 @@ fn register(text: &mut [u8], at: usize, defined: u8, high: u8, low: u8) -> usize
 // Register k of processor p, and a space before it.
 fn register_at(text: &mut [u8], at: usize, outcome: &[u8], p: usize, k: usize) -> usize
     requires { ⌜ (p < 256) × (k < 8) ⌝ }
-    ensures { λ r. ⌜ Laid (now (text .entry)) at (registerAt (now (outcome .entry)) p k) (now (text .exit)) r ⌝ }
-    ensures { λ _. ⌜ length (registerAt (now (outcome .entry)) p k) ≤ 6 ⌝ }
+    ensures { λ r. ⌜ LaidShort 6 (now (text .entry)) at (registerAt (now (outcome .entry)) p k) (now (text .exit)) r ⌝ }
 {
     let behind_gap = put(text, at, b' ');
     let from = 24 * p + 3 * k;
-    let defined = byte(outcome, from);
-    let high = byte(outcome, from + 1);
-    let low = byte(outcome, from + 2);
+    let defined = words::byte(outcome, from);
+    let high = words::byte(outcome, from + 1);
+    let low = words::byte(outcome, from + 2);
     register(text, behind_gap, defined, high, low)
 }
 
 // Registers 0 to 7 of processor p.
 fn registers(text: &mut [u8], at: usize, outcome: &[u8], p: usize) -> usize
     requires { ⌜ p < 256 ⌝ }
-    ensures { λ r. ⌜ Laid (now (text .entry)) at (registersOf (now (outcome .entry)) p) (now (text .exit)) r ⌝ }
-    ensures { λ _. ⌜ length (registersOf (now (outcome .entry)) p) ≤ 48 ⌝ }
+    ensures { λ r. ⌜ LaidShort 48 (now (text .entry)) at (registersOf (now (outcome .entry)) p) (now (text .exit)) r ⌝ }
 {
     let mut end = at;
     let mut k: usize = 0;
@@ -73,8 +60,7 @@ fn gap(text: &mut [u8], at: usize, p: usize) -> usize
 // Processor p and its registers.
 fn processor(text: &mut [u8], at: usize, outcome: &[u8], p: usize) -> usize
     requires { ⌜ p < 256 ⌝ }
-    ensures { λ r. ⌜ Laid (now (text .entry)) at (processorOf (now (outcome .entry)) p) (now (text .exit)) r ⌝ }
-    ensures { λ _. ⌜ length (processorOf (now (outcome .entry)) p) ≤ 53 ⌝ }
+    ensures { λ r. ⌜ LaidShort 53 (now (text .entry)) at (processorOf (now (outcome .entry)) p) (now (text .exit)) r ⌝ }
 {
     let behind_gap = gap(text, at, p);
     let behind_letter = put(text, behind_gap, b'p');
@@ -84,8 +70,7 @@ fn processor(text: &mut [u8], at: usize, outcome: &[u8], p: usize) -> usize
 
 // The line of an outcome: each present processor.
 fn outcome_line(text: &mut [u8], at: usize, outcome: &[u8], procs: u8) -> usize
-    ensures { λ r. ⌜ Laid (now (text .entry)) at (outcomeLine procs (now (outcome .entry))) (now (text .exit)) r ⌝ }
-    ensures { λ _. ⌜ length (outcomeLine procs (now (outcome .entry))) ≤ 53 * procs + 1 ⌝ }
+    ensures { λ r. ⌜ LaidShort (53 * procs + 1) (now (text .entry)) at (outcomeLine procs (now (outcome .entry))) (now (text .exit)) r ⌝ }
 {
     let present = procs as usize;
     let mut end = at;
@@ -99,8 +84,7 @@ fn outcome_line(text: &mut [u8], at: usize, outcome: &[u8], procs: u8) -> usize
 
 // A line for each record.
 fn outcome_lines(text: &mut [u8], at: usize, records: &[u8], procs: u8) -> usize
-    ensures { λ r. ⌜ Laid (now (text .entry)) at (concatMap (outcomeLine procs) (recordsIn (length (now (records .entry)) / 96) (now (records .entry)))) (now (text .exit)) r ⌝ }
-    ensures { λ _. ⌜ length (concatMap (outcomeLine procs) (recordsIn (length (now (records .entry)) / 96) (now (records .entry)))) ≤ (53 * procs + 1) * (length (now (records .entry)) / 96) ⌝ }
+    ensures { λ r. ⌜ LaidShort ((53 * procs + 1) * (length (now (records .entry)) / 96)) (now (text .entry)) at (concatMap (outcomeLine procs) (recordsIn (length (now (records .entry)) / 96) (now (records .entry)))) (now (text .exit)) r ⌝ }
 {
     let count = records.len() / 96;
     let mut end = at;

@@ -12,14 +12,11 @@ use Rattle.cases.specs.Block.{caseOf}
 use Rattle.cases.specs.Formed.{Twins}
 use Rattle.cases.proofs.Twins.{twins-code, twins-case, twins-position}
 use Rattle.runs.specs.Listing.{Listed, Refused, IsListing}
+use Rattle.runs.proofs.Unique.{refused-unique}
 use Rattle.rules.specs.Womm.{womm}
 use Rattle.rules.proofs.Listing.{listing-unique, listing-same}
 use Rattle.listing.specs.Outcomes.{listRefusals, IsOutcomes}
 use Rattle.listing.proofs.Refusals.{accepted, accepted-block, same-code}
-
-refused-unique : (why size : ℕ) (a b : Listed) (out buf : List ℕ) → Refused why size a out → Refused why size b buf → (a ≡ b) × (out ≡ buf)
-refused-unique why size a b out buf x y =
-    (λ i. record { code = (x .code ∙ sym (y .code)) i; count = (x .count ∙ sym (y .count)) i; cut = (x .cut ∙ sym (y .cut)) i }, x .bytes ∙ sym (y .bytes))
 
 -- AT MOST ONE ANSWER
 pub outcomes-unique : (block : List ℕ) (bound size : ℕ) (a b : Listed) (at to : ℕ) (out buf : List ℕ) → IsOutcomes block bound size a at out → IsOutcomes block bound size b to buf → (a ≡ b) × (at ≡ to) × (out ≡ buf)

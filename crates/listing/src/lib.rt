@@ -1,13 +1,9 @@
 // Lists every outcome of a case within a bound.
 use cases::Case;
 use searching::Tally;
-ghost use mathlib.Core.Path.{_≡_};
-ghost use Prim.Native.Nat.{_≤_};
 ghost use lib.ListN.{length};
-ghost use Rattle.runs.specs.Listing.{Refused, IsListing};
-ghost use Rattle.rules.specs.Womm.{womm};
-ghost use Rattle.machine.specs.Fit.{Fit};
 ghost use Rattle.listing.specs.Outcomes.{answerOf, IsOutcomes};
+ghost use Rattle.listing.specs.Given.{Searching, Found, RefusedAt};
 
 // What listing answers: the code, how many records there are, whether a run was cut, and the position that a block's code carries, 0 with any other.
 pub struct Answer {
@@ -19,7 +15,7 @@ pub struct Answer {
 
 // Refuses with a code and its position: the buffer is all zeros.
 fn refuse(code: u8, position: usize, buffer: &mut [u8]) -> Answer
-    ensures { λ r. ⌜ Refused code (length (now (buffer .entry))) (answerOf r) (now (buffer .exit)) × (r .position ≡ position) ⌝ }
+    ensures { λ r. ⌜ RefusedAt code position (length (now (buffer .entry))) r (now (buffer .exit)) ⌝ }
 {
     records::clear(buffer);
     Answer {
@@ -32,8 +28,8 @@ fn refuse(code: u8, position: usize, buffer: &mut [u8]) -> Answer
 
 // The outcomes of a case within n steps.
 fn search(c: Case, n: usize, out: &mut [u8]) -> Answer
-    requires { ⌜ Fit c × (n ≤ 96) ⌝ }
-    ensures { λ r. ⌜ IsListing (womm c) n (length (now (out .entry))) (answerOf r) (now (out .exit)) × (r .position ≡ 0) ⌝ }
+    requires { ⌜ Searching c n ⌝ }
+    ensures { λ r. ⌜ Found c n (length (now (out .entry))) r (now (out .exit)) ⌝ }
 {
     records::clear(out);
     let empty = Tally {

@@ -7,7 +7,7 @@ ghost use Prim.Native.Nat.{_+_, _≤_};
 ghost use lib.ListN.{length, take, drop, replicate};
 ghost use Rattle.runs.specs.Listing.{below as isBelow};
 ghost use Rattle.records.specs.Buffer.{Among, Held};
-ghost use Rattle.records.specs.Insertion.{Place, Insertion};
+ghost use Rattle.records.specs.Insertion.{Place, Finding, Standing, Shifting, Insertion};
 
 // How many records the buffer holds, and whether there was no room for a new one.
 pub struct Inserted {
@@ -43,7 +43,7 @@ pub fn below(a: &[u8], b: &[u8]) -> bool
 
 // The place of r among the n records, by halving.
 fn find(out: &[u8], n: usize, r: &[u8]) -> usize
-    requires { ⌜ Held (now out) n × (length (now r) ≡ 96) ⌝ }
+    requires { ⌜ Finding (now out) n (now r) ⌝ }
     ensures { λ x. ⌜ Place (now (out .entry)) n (now (r .entry)) x ⌝ }
 {
     let mut low = 0;
@@ -63,7 +63,7 @@ fn find(out: &[u8], n: usize, r: &[u8]) -> usize
 
 // Whether r is one of the n records, where `at` is its place.
 fn there(out: &[u8], n: usize, r: &[u8], at: usize) -> bool
-    requires { ⌜ Held (now out) n × (length (now r) ≡ 96) × Place (now out) n (now r) at ⌝ }
+    requires { ⌜ Standing (now out) n (now r) at ⌝ }
     ensures { λ x. ⌜ (x ≡ true) ↔ Among (now (out .entry)) n (now (r .entry)) ⌝ }
 {
     if n <= at {
@@ -100,7 +100,7 @@ pub fn write(tail: &mut [u8], r: &[u8])
 
 // Puts r before the first `used` bytes, which move up.
 fn shift_in(tail: &mut [u8], used: usize, r: &[u8])
-    requires { ⌜ (used + 96 ≤ length (now tail)) × (length (now r) ≡ 96) ⌝ }
+    requires { ⌜ Shifting (now tail) used (now r) ⌝ }
     ensures { λ _. ⌜ now (tail .exit) ≡ now (r .entry) ++ (take used (now (tail .entry)) ++ drop (used + 96) (now (tail .entry))) ⌝ }
 {
     move_up(tail, used);

@@ -1,7 +1,8 @@
--- A schedule taken on the machine, and the bytes after the registers. Assumes nothing.
+-- A schedule taken on the machine, the bytes after the registers, and what the functions are given. Assumes nothing.
 use mathlib.Core.Path.{_≡_}
 use mathlib.Core.List.{List, _++_}
-use Prim.Native.Nat.{ℕ}
+use Prim.Native.Nat.{ℕ, _%_, _≤_, _<_}
+use lib.ListN.{length}
 use Rattle.cases.specs.declared.Case.{Case}
 use Rattle.runs.specs.Replay.{replay}
 use Rattle.rules.specs.State.{State, initial, waiting}
@@ -9,6 +10,9 @@ use Rattle.rules.specs.Step.{Step, replayPlace}
 use Rattle.rules.specs.Result.{howMany, placeByte, present}
 use Rattle.rules.specs.Womm.{womm}
 use Rattle.machine.specs.Shown.{shown}
+use Rattle.machine.specs.declared.Entry.{Entry}
+use Rattle.machine.specs.declared.Machine.{Machine}
+use Rattle.machine.specs.Fit.{Fit}
 use Rattle.machine.specs.Valid.{Valid}
 use Rattle.replaying.specs.declared.Walked.{Walked}
 
@@ -23,3 +27,25 @@ pub record IsWalk (c : Case) (ts : List Step) (w : Walked) : Type 0 where
 -- The place counters, then the queue lengths.
 abbrev pub tailOf : Case → State → List ℕ
 tailOf c s = present c (λ p. placeByte (s .places p)) ++ present c (λ p. howMany (s .count) (λ k. waiting p (s .actions k)))
+
+-- A case, and a schedule of whole steps.
+pub record Walking (c : Case) (schedule : List ℕ) : Type 0 where
+  pub fit : Fit c
+  pub whole : length schedule % 4 ≡ 0
+
+-- The entries of a machine, and a byte after the registers.
+pub record TailAt (acts : List Entry) (issued j : ℕ) : Type 0 where
+  pub few : issued ≤ 48
+  pub acts-long : length acts ≡ 48
+  pub low : j < 8
+
+-- The entries of a machine, and a buffer of a result's size.
+pub record Filling (acts : List Entry) (issued : ℕ) (result : List ℕ) : Type 0 where
+  pub few : issued ≤ 48
+  pub acts-long : length acts ≡ 48
+  pub long : length result ≡ 104
+
+-- A machine, and a buffer of this size.
+pub record Showing (c : Case) (m : Machine) (size : ℕ) (out : List ℕ) : Type 0 where
+  pub valid : Valid c m
+  pub long : length out ≡ size

@@ -4,7 +4,7 @@ use machine::Entry;
 use machine::Machine;
 ghost use mathlib.Core.Path.{_≡_};
 ghost use mathlib.Core.Bool.{cond};
-ghost use Prim.Native.Nat.{ℕ, _%_, _≤_, _<_};
+ghost use Prim.Native.Nat.{ℕ, _≤_, _<_};
 ghost use lib.Dec.{eqb};
 ghost use lib.ListN.{length, getD};
 ghost use Rattle.words.specs.Refusals.{firstOf};
@@ -13,10 +13,8 @@ ghost use Rattle.rules.specs.State.{State, waiting};
 ghost use Rattle.rules.specs.Step.{stepsOf};
 ghost use Rattle.rules.specs.Result.{howMany, registers as registersOf, resultBytes};
 ghost use Rattle.machine.specs.Shown.{placeOf, shown, Acts};
-ghost use Rattle.machine.specs.Fit.{Fit};
-ghost use Rattle.machine.specs.Valid.{Valid};
 ghost use Rattle.replaying.specs.Answer.{lengthRefusals, IsReplay};
-ghost use Rattle.replaying.specs.Inner.{IsWalk, tailOf};
+ghost use Rattle.replaying.specs.Inner.{IsWalk, tailOf, Walking, TailAt, Filling, Showing};
 
 // The code, the number of steps taken, the place of the instruction that the code names, else 255, and the position that a block's code carries,
 // 0 with any other.
@@ -37,7 +35,7 @@ pub struct Walked {
 
 // Takes the steps of a schedule until one is refused.
 pub fn walk(c: Case, schedule: &[u8]) -> Walked
-    requires { ⌜ Fit c × (length (now schedule) % 4 ≡ 0) ⌝ }
+    requires { ⌜ Walking c (now schedule) ⌝ }
     ensures { λ r. ⌜ IsWalk c (stepsOf (now (schedule .entry))) r ⌝ }
 {
     let mut m = machine::start(c);
@@ -101,7 +99,7 @@ fn queue_length(acts: [Entry; 48], issued: usize, p: usize) -> u8
 
 // The place counter of processor p, then its queue's length, in the bytes after the registers; 0 of an absent processor.
 fn tail_byte(c: Case, places: &[u8; 4], acts: [Entry; 48], issued: usize, j: usize) -> u8
-    requires { ⌜ (issued ≤ 48) × (length acts ≡ 48) × (j < 8) ⌝ }
+    requires { ⌜ TailAt acts issued j ⌝ }
     ensures { λ r. ⌜ ((s : State) → Acts c issued acts s → ((p : ℕ) → s .places p ≡ placeOf (getD (now (places .entry)) p 0)) → r ≡ getD (tailOf c s) j 0) ⌝ }
 {
     let p = j % 4;
@@ -141,7 +139,7 @@ fn fill(
     issued: usize,
     result: &mut [u8],
 )
-    requires { ⌜ (issued ≤ 48) × (length acts ≡ 48) × (length (now result) ≡ 104) ⌝ }
+    requires { ⌜ Filling acts issued (now result) ⌝ }
     ensures { λ _. ⌜ ((s : State) → Acts c issued acts s → ((p : ℕ) → s .places p ≡ placeOf (getD places p 0)) → registers ≡ registersOf c s → now (result .exit) ≡ resultBytes c s) ⌝ }
 {
     let mut i: usize = 0;
@@ -154,7 +152,7 @@ fn fill(
 
 // Writes the result of a machine into a buffer of 104 bytes.
 fn show(c: Case, m: Machine, result: &mut [u8])
-    requires { ⌜ Valid c m × (length (now result) ≡ 104) ⌝ }
+    requires { ⌜ Showing c m 104 (now result) ⌝ }
     ensures { λ _. ⌜ now (result .exit) ≡ resultBytes c (shown c m) ⌝ }
 {
     let acts = m.acts;

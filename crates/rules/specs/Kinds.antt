@@ -2,7 +2,7 @@
 use mathlib.Core.Bool.{Bool, true, false, _&&_, _||_, cond}
 use mathlib.Core.List.{List, [], _∷_}
 use mathlib.Core.Option.{Option, none, some}
-use Prim.Native.Nat.{ℕ, _+_, _-_, _%_}
+use Prim.Native.Nat.{ℕ, _+_, _-_, _%_, _<_}
 use lib.Dec.{eqb}
 use Rattle.cases.specs.declared.Instr.{Instr}
 use Rattle.cases.specs.declared.Instr.the-variants.{Empty, Read, Write, Local, Branch, Goto, Acquire, Release}
@@ -106,3 +106,8 @@ heldBy k q same =
     || ((writing k || computing k || jumping k) && acquiring q)
     || (acquiring k && (acquiring q || releasing q))
     || releasing k
+
+-- Two numbers of kinds.
+pub record TwoKinds (k q : ℕ) : Type 0 where
+  pub first : k < 8
+  pub second : q < 8

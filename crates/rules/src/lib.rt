@@ -5,7 +5,7 @@ ghost use mathlib.Core.Path.{_≡_};
 ghost use mathlib.Core.Bool.{cond};
 ghost use Prim.Native.Nat.{_+_, _-_, _%_, _<_};
 ghost use lib.Dec.{eqb};
-ghost use Rattle.rules.specs.Kinds.{kind, heldBy, evaluate};
+ghost use Rattle.rules.specs.Kinds.{kind, heldBy, TwoKinds, evaluate};
 
 // The kind of an instruction, as a number.
 pub fn kind_of(i: Instr) -> u8
@@ -37,7 +37,7 @@ const HOLD: [[u8; 8]; 8] = [
 
 // Whether a queued action of kind q holds back the commit of one of kind k.
 pub fn held_by(k: u8, q: u8, same: bool) -> bool
-    requires { ⌜ (k < 8) × (q < 8) ⌝ }
+    requires { ⌜ TwoKinds k q ⌝ }
     ensures { λ r. ⌜ r ≡ heldBy k q same ⌝ }
 {
     let row = HOLD[k as usize];

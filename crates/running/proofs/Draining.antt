@@ -20,7 +20,7 @@ use Rattle.machine.proofs.Stores.{set-put, set-all}
 use Rattle.boards.specs.declared.Buffering.{Buffering}
 use Rattle.boards.specs.Board.{opening}
 use Rattle.boards.specs.Drain.{drained}
-use Rattle.boards.specs.Machine.{drain, allowed, moved}
+use Rattle.boards.specs.Machine.{drain, moved}
 use Rattle.boards.specs.Apart.{oldestAt, Placed}
 use Rattle.boards.proofs.Accepted.{can-drain}
 use Rattle.boards.proofs.Buffers.{same-board, put2-cases}
@@ -30,6 +30,7 @@ use Rattle.stores.specs.Log.{blank, sitsIn, storeOf, gathered, bufferOf}
 use Rattle.running.specs.Shown.{unknown, valuesOf, shown}
 use Rattle.stores.specs.Log.{Oldest}
 use Rattle.running.specs.Valid.{Valid}
+use Rattle.running.specs.Given.{Draining, Preset}
 use Rattle.stores.proofs.Gathered.{gathered-filled, gone, buffer-less, buffer-other, oldest-enters}
 
 abbrev pub drainedBy : Arrays → ℕ → Arrays
@@ -37,14 +38,17 @@ drainedBy s j =
     let x = getD (s .log) j blank in
     record { places = s .places; values = s .values; holders = s .holders; memory = set (s .memory) (x .loc) (x .value); logged = s .logged; log = set (s .log) j (gone x) }
 
-module _ (k : Buffering) (c : Case) (s : Arrays) (p b j : ℕ) (v : Valid c s) (ok : allowed k c (shown k c s) (drain p b) ≡ true) (O : Oldest k (s .log) (s .logged) p b j) where
+module _ (k : Buffering) (c : Case) (s : Arrays) (p b j : ℕ) (given : Draining k c s p b) (O : Oldest k (s .log) (s .logged) p b j) where
+  abbrev v : Valid c s
+  v = given .valid
+
   -- there is one
   pub oldest-low : j < s .logged
   oldest-low = elim (decLt j (s .logged)) [ yes h ↦ h | no h ↦ absurd (none-there (omega (arith, O .most))) ]
     where
       none-there : j ≡ s .logged → ⊥
       none-there e =
-          let w = below-cases (s .logged) (λ i. sitsIn k p b (getD (s .log) i blank)) (sym (gathered-filled (λ i. storeOf (getD (s .log) i blank)) (λ i. sitsIn k p b (getD (s .log) i blank)) (s .logged)) ∙ can-drain k c (shown k c s) p b ok .holds) in
+          let w = below-cases (s .logged) (λ i. sitsIn k p b (getD (s .log) i blank)) (sym (gathered-filled (λ i. storeOf (getD (s .log) i blank)) (λ i. sitsIn k p b (getD (s .log) i blank)) (s .logged)) ∙ can-drain k c (shown k c s) p b (given .free) .holds) in
           false≢true (sym (O .before (w .0) (omega (arith, w .1))) ∙ w .2)
 
   pub oldest-loc : getD (s .log) j blank .loc < 8
@@ -103,7 +107,7 @@ same-everywhere zero a i = refl
 same-everywhere (suc n) a zero = refl
 same-everywhere (suc n) a (suc i) = same-everywhere n a i
 
-module _ (k : Buffering) (c : Case) (values : List Value) (f : Fit c) (long : length values ≡ 32) (all : (n : ℕ) → n < 32 → shownValue (getD values n unknown) ≡ presetOf c (n / 8) (n % 8)) where
+module _ (k : Buffering) (c : Case) (values : List Value) (f : Fit c) (preset : Preset c values) where
   abbrev pub begun : Arrays
   begun = record { places = replicate 4 0; values = values; holders = replicate 8 0; memory = c .memory; logged = 0; log = replicate 48 blank }
 
@@ -114,7 +118,7 @@ module _ (k : Buffering) (c : Case) (values : List Value) (f : Fit c) (long : le
       inside h g =
           let u : (8 * p + r) / 8 ≡ p = omega arith in
           let w : (8 * p + r) % 8 ≡ r = omega arith in
-          rw (lt-ltb p 4 h, lt-ltb r 8 g) (all (8 * p + r) (omega arith) ∙ ap₂ (presetOf c) u w)
+          rw (lt-ltb p 4 h, lt-ltb r 8 g) (preset .all (8 * p + r) (omega arith) ∙ ap₂ (presetOf c) u w)
 
   pub begun-shows : shown k c begun ≡ opening c
   unfolding gathered
@@ -127,7 +131,7 @@ module _ (k : Buffering) (c : Case) (values : List Value) (f : Fit c) (long : le
         fit = f;
         logged = omega arith;
         places-long = refl;
-        values-long = long;
+        values-long = preset .long;
         holders-long = refl;
         memory-long = f .memory-long;
         log-long = length-replicate 48 blank;

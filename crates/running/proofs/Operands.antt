@@ -32,7 +32,7 @@ use Rattle.stores.specs.Log.{bufferOf}
 use Rattle.running.specs.Shown.{valuesOf, shown}
 use Rattle.stores.specs.Log.{bufferBy}
 use Rattle.running.specs.Steps.{operandBy, firstBy, secondBy, unreadyBy, barsBy}
-use Rattle.running.specs.Valid.{Valid}
+use Rattle.running.specs.Given.{Glancing}
 
 -- at most two registers, each below 8
 abbrev Regs : List ℕ → Type 0
@@ -127,9 +127,9 @@ slot-test Shared l h = refl
 slot-test Split l h = ne-eqb (l % 256) 8 (λ e. omega arith)
 
 -- a quiet instruction that may run
-module _ (k : Buffering) (c : Case) (s : Arrays) (p : ℕ) (v : Valid c s) (low : p < 4) (ok : allowed k c (shown k c s) (run p) ≡ true) (f : Fine (instrAt c p (getD (s .places) p 0))) where
+module _ (k : Buffering) (c : Case) (s : Arrays) (p : ℕ) (given : Glancing k c s p) (f : Fine (instrAt c p (getD (s .places) p 0))) where
   pub address-is : orZero (firstBy (s .values) p (instrAt c p (getD (s .places) p 0))) ≡ operand k c (shown k c s) p 0
-  address-is = ap orZero (first-is c (s .values) p low (instrAt c p (getD (s .places) p 0)) f)
+  address-is = ap orZero (first-is c (s .values) p (given .proc) (instrAt c p (getD (s .places) p 0)) f)
 
   pub quiet-is :
       (not (reading (kind (instrAt c p (getD (s .places) p 0))) || syncs (kind (instrAt c p (getD (s .places) p 0))))
@@ -146,7 +146,7 @@ module _ (k : Buffering) (c : Case) (s : Arrays) (p : ℕ) (v : Valid c s) (low 
           ≡ (not (reading (kind (instrAt c p (getD (s .places) p 0))) || syncs (kind (instrAt c p (getD (s .places) p 0)))) && not (w && isNone (slot k (operand k c (shown k c s) p 0))))
       by-write false e = refl
       by-write true e =
-          let near : operand k c (shown k c s) p 0 < c .locs = access-low k c (shown k c s) p (can-run k c (shown k c s) p ok) (write-accesses (kind (instrAt c p (getD (s .places) p 0))) e) in
-          let few = v .fit .locs in
+          let near : operand k c (shown k c s) p 0 < c .locs = access-low k c (shown k c s) p (can-run k c (shown k c s) p (given .free)) (write-accesses (kind (instrAt c p (getD (s .places) p 0))) e) in
+          let few = given .valid .fit .locs in
           ap (λ (b : Bool). not (reading (kind (instrAt c p (getD (s .places) p 0))) || syncs (kind (instrAt c p (getD (s .places) p 0)))) && not b)
           (ap (λ (n : ℕ). eqb (bufferBy k (n % 256)) 8) address-is ∙ slot-test k (operand k c (shown k c s) p 0) (omega arith))

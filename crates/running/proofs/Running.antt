@@ -28,7 +28,6 @@ use Rattle.committing.specs.Committed.{resultBy, lockedBy}
 use Rattle.boards.specs.declared.Buffering.{Buffering}
 use Rattle.boards.specs.Board.{slot, Store, Board, seen}
 use Rattle.boards.specs.Run.{inMemory, inBuffer, assigned, operand, follows, yields, newStore, ran}
-use Rattle.boards.specs.Machine.{run, allowed}
 use Rattle.boards.proofs.Accepted.{CanRun, can-run, write-accesses}
 use Rattle.boards.proofs.Buffers.{same-board, entered-cases}
 use Rattle.stores.specs.declared.Logged.{Logged}
@@ -38,6 +37,7 @@ use Rattle.running.specs.Shown.{unknown, valuesOf, shown}
 use Rattle.stores.specs.Log.{bufferBy}
 use Rattle.running.specs.Steps.{firstBy, secondBy, assignBy, followBy, storedBy, writtenBy}
 use Rattle.running.specs.Valid.{Valid}
+use Rattle.running.specs.Given.{Running, Ran}
 use Rattle.stores.proofs.Gathered.{slot-some, slot-none, buffer-more}
 use Rattle.running.proofs.Operands.{first-is, second-is}
 
@@ -238,7 +238,10 @@ ranBy k s p i val =
       log = w .log;
     }
 
-module _ (k : Buffering) (c : Case) (s : Arrays) (p : ℕ) (v : Valid c s) (room : s .logged < 48) (ok : allowed k c (shown k c s) (run p) ≡ true) where
+module _ (k : Buffering) (c : Case) (s : Arrays) (p : ℕ) (given : Running k c s p) where
+  abbrev v : Valid c s
+  v = given .valid
+
   abbrev b : Board
   b = shown k c s
 
@@ -246,7 +249,7 @@ module _ (k : Buffering) (c : Case) (s : Arrays) (p : ℕ) (v : Valid c s) (room
   place = getD (s .places) p 0
 
   R : CanRun k c b p
-  R = can-run k c b p ok
+  R = can-run k c b p (given .free)
 
   pub proc-low : p < 4
   proc-low = omega (arith, leb-false (c .procs) p (R .low), v .fit .procs)
@@ -402,10 +405,10 @@ module _ (k : Buffering) (c : Case) (s : Arrays) (p : ℕ) (v : Valid c s) (room
 
   -- of the instruction as the code has it
   pub ran-right : (t : Instr) → t ≡ instrAt c p place → (val : ℕ) → (reading (kind t) ≡ true → val ≡ seen k b p (orZero (firstBy (s .values) p t))) → (z : Arrays) → z ≡ ranBy k s p t val
-      → (shown k c z ≡ ran k c b p) × Valid c z × (z .logged ≤ s .logged + 1)
+      → Ran k c s p z
   ran-right t e val hv z q =
-      subst (λ (w : Arrays). (shown k c w ≡ ran k c b p) × Valid c w × (w .logged ≤ s .logged + 1)) (sym (q ∙ ap (λ (u : Instr). ranBy k s p u val) e))
-      (run-shows val hv′, run-valid val hv′, parts .more)
+      subst (Ran k c s p) (sym (q ∙ ap (λ (u : Instr). ranBy k s p u val) e))
+      (record { shows = run-shows val hv′; valid = run-valid val hv′; logged = parts .more })
     where
       hv′ : reading (kind (instrAt c p place)) ≡ true → val ≡ seen k b p x
       hv′ = subst (λ (u : Instr). reading (kind u) ≡ true → val ≡ seen k b p (orZero (firstBy (s .values) p u))) e hv

@@ -2,3 +2,4 @@ pub mod Shown
 pub mod Steps
 pub mod Valid
 pub mod Glanced
+pub mod Given

@@ -5,22 +5,20 @@ use cases::Instr;
 use machine::Value;
 use stores::Logged;
 ghost use mathlib.Core.Path.{_≡_};
-ghost use mathlib.Core.Bool.{true, _&&_, cond};
+ghost use mathlib.Core.Bool.{_&&_, cond};
 ghost use mathlib.Core.Option.{none, some};
-ghost use Prim.Native.Nat.{ℕ, _+_, _/_, _%_, _≤_, _<_};
+ghost use Prim.Native.Nat.{_/_, _≤_, _<_};
 ghost use lib.Dec.{ltb};
 ghost use lib.ListN.{length, getD};
 ghost use Rattle.cases.specs.declared.Case.{Case as TheCase};
-ghost use Rattle.cases.specs.Case.{presetOf};
 ghost use Rattle.words.specs.Small.{someBelow};
 ghost use Rattle.rules.specs.Kinds.{syncs};
 ghost use Rattle.machine.specs.Shown.{shownValue};
 ghost use Rattle.machine.specs.Fit.{Fit};
 ghost use Rattle.issuing.specs.Issued.{assignedBy};
 ghost use Rattle.boards.specs.declared.Buffering.{Buffering as Kind};
-ghost use Rattle.boards.specs.Board.{filled, opening, seen as seenOf};
-ghost use Rattle.boards.specs.Run.{ran};
-ghost use Rattle.boards.specs.Machine.{run as runMove, drain as drainMove, allowed, moved, ended as isEnded, registers as registersOf};
+ghost use Rattle.boards.specs.Board.{filled, seen as seenOf};
+ghost use Rattle.boards.specs.Machine.{run as runMove, allowed, ended as isEnded, registers as registersOf};
 ghost use Rattle.boards.specs.Quiet.{quiet as isQuiet};
 ghost use Rattle.boards.specs.Apart.{oldestAt};
 ghost use Rattle.stores.specs.Log.{bufferOf};
@@ -28,6 +26,7 @@ ghost use Rattle.running.specs.Shown.{unknown, shown};
 ghost use Rattle.running.specs.Steps.{operandBy, firstBy, secondBy, unreadyBy, barsBy, assignBy, followBy, storedBy, writtenBy};
 ghost use Rattle.running.specs.Glanced.{Glanced};
 ghost use Rattle.running.specs.Valid.{Valid};
+ghost use Rattle.running.specs.Given.{Seeing, Storing, Looking, Glancing, Running, Ran, Draining, Drained, Preset, Started};
 
 // Register k of processor p stands at 8p + k; the stores of the log stand in the order in which they were run.
 pub struct Arrays {
@@ -41,7 +40,7 @@ pub struct Arrays {
 
 // What processor p reads at location l.
 fn seen(k: Buffering, s: Arrays, p: usize, l: usize) -> u16
-    requires { ⌜ (l < 8) × (s .logged ≤ 48) × (length (s .log) ≡ 48) × (length (s .memory) ≡ 8) ⌝ }
+    requires { ⌜ Seeing s l ⌝ }
     ensures { λ r. ⌜ ((c : TheCase) → r ≡ seenOf k (shown k c s) p l) ⌝ }
 {
     let b = words::wide(stores::buffer_of(k, (l % 256) as u8));
@@ -132,7 +131,7 @@ fn bars(k: Buffering, s: Arrays, locs: u8, p: usize, i: Instr) -> bool
 
 // Whether processor p may run its next instruction.
 pub fn can_run(c: Case, k: Buffering, s: Arrays, p: usize) -> bool
-    requires { ⌜ Valid c s × (p < 4) ⌝ }
+    requires { ⌜ Looking c s p ⌝ }
     ensures { λ r. ⌜ r ≡ allowed k c (shown k c s) (runMove p) ⌝ }
 {
     if words::wide(c.procs) <= p {
@@ -156,7 +155,7 @@ pub struct Next {
 
 // The next instruction of processor p, which nothing bars.
 pub fn glance(c: Case, k: Buffering, s: Arrays, p: usize) -> Next
-    requires { ⌜ Valid c s × (p < 4) × (allowed k c (shown k c s) (runMove p) ≡ true) ⌝ }
+    requires { ⌜ Glancing k c s p ⌝ }
     ensures { λ r. ⌜ Glanced k c (shown k c s) p r ⌝ }
 {
     let place = s.places[p];
@@ -175,7 +174,7 @@ pub fn glance(c: Case, k: Buffering, s: Arrays, p: usize) -> Next
 
 // Whether the next instruction of processor p is a quiet one that it may run.
 pub fn sure(c: Case, k: Buffering, s: Arrays, p: usize) -> bool
-    requires { ⌜ Valid c s × (p < 4) ⌝ }
+    requires { ⌜ Looking c s p ⌝ }
     ensures { λ r. ⌜ r ≡ (isQuiet k c (shown k c s) p && allowed k c (shown k c s) (runMove p)) ⌝ }
 {
     if can_run(c, k, s, p) {
@@ -187,7 +186,7 @@ pub fn sure(c: Case, k: Buffering, s: Arrays, p: usize) -> bool
 
 // The location of the oldest store of buffer b of processor p, which holds one.
 pub fn drain_at(c: Case, k: Buffering, s: Arrays, p: usize, b: usize) -> u8
-    requires { ⌜ Valid c s × (b < 8) × (allowed k c (shown k c s) (drainMove p b) ≡ true) ⌝ }
+    requires { ⌜ Draining k c s p b ⌝ }
     ensures { λ r. ⌜ oldestAt (shown k c s .buffers p b) ≡ some r ⌝ }
 {
     let log = s.log;
@@ -245,7 +244,7 @@ fn value_read(k: Buffering, s: Arrays, q: u8, p: usize, x: u16) -> u16
 
 // The machine after a store of v to location l by processor p: in memory, or in the log.
 fn stored(k: Buffering, s: Arrays, p: usize, l: usize, v: u16) -> Arrays
-    requires { ⌜ (p < 4) × (l < 8) × (s .logged < 48) × (length (s .log) ≡ 48) × (length (s .memory) ≡ 8) ⌝ }
+    requires { ⌜ Storing s p l ⌝ }
     ensures { λ r. ⌜ r ≡ storedBy k s p l v ⌝ }
 {
     let loc = (l % 256) as u8;
@@ -281,8 +280,8 @@ fn written(k: Buffering, s: Arrays, q: u8, p: usize, x: u16, y: u16) -> Arrays
 
 // The machine after the next instruction of processor p, which nothing bars.
 pub fn run(c: Case, k: Buffering, s: Arrays, p: usize) -> Arrays
-    requires { ⌜ Valid c s × (s .logged < 48) × (allowed k c (shown k c s) (runMove p) ≡ true) ⌝ }
-    ensures { λ r. ⌜ (shown k c r ≡ ran k c (shown k c s) p) × Valid c r × (r .logged ≤ s .logged + 1) ⌝ }
+    requires { ⌜ Running k c s p ⌝ }
+    ensures { λ r. ⌜ Ran k c s p r ⌝ }
 {
     let place = s.places[p];
     let t = c.code[12 * p + words::wide(place)];
@@ -306,8 +305,8 @@ pub fn run(c: Case, k: Buffering, s: Arrays, p: usize) -> Arrays
 
 // The machine after the oldest store of buffer b of processor p has reached memory.
 pub fn drain(c: Case, k: Buffering, s: Arrays, p: usize, b: usize) -> Arrays
-    requires { ⌜ Valid c s × (b < 8) × (allowed k c (shown k c s) (drainMove p b) ≡ true) ⌝ }
-    ensures { λ r. ⌜ (shown k c r ≡ moved k c (shown k c s) (drainMove p b)) × Valid c r × (r .logged ≡ s .logged) ⌝ }
+    requires { ⌜ Draining k c s p b ⌝ }
+    ensures { λ r. ⌜ Drained k c s p b r ⌝ }
 {
     let log = s.log;
     let j = stores::oldest(k, log, s.logged, p, b);
@@ -321,7 +320,7 @@ pub fn drain(c: Case, k: Buffering, s: Arrays, p: usize, b: usize) -> Arrays
 // What each register starts with.
 fn presets(c: Case) -> [Value; 32]
     requires { ⌜ Fit c ⌝ }
-    ensures { λ r. ⌜ (length r ≡ 32) × ((n : ℕ) → n < 32 → shownValue (getD r n unknown) ≡ presetOf c (n / 8) (n % 8)) ⌝ }
+    ensures { λ r. ⌜ Preset c r ⌝ }
 {
     let none = Value {
         known: false,
@@ -339,7 +338,7 @@ fn presets(c: Case) -> [Value; 32]
 // The machine before the first step.
 pub fn start(c: Case, k: Buffering) -> Arrays
     requires { ⌜ Fit c ⌝ }
-    ensures { λ r. ⌜ (shown k c r ≡ opening c) × Valid c r × (r .logged ≡ 0) ⌝ }
+    ensures { λ r. ⌜ Started k c r ⌝ }
 {
     let values = presets(c);
     let memory = c.memory;

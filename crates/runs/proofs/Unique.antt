@@ -11,7 +11,7 @@ use borrow.Author.Tests.{leb-true, leb-false}
 use Rattle.words.specs.Small.{all}
 use Rattle.words.proofs.Bools.{decide, and-both, all-at}
 use Rattle.runs.specs.Model.{Model}
-use Rattle.runs.specs.Listing.{below, ascending, RecordsOf, Listed, IsListOf, IsListing}
+use Rattle.runs.specs.Listing.{below, ascending, RecordsOf, Listed, Refused, IsListOf, IsListing}
 use Rattle.runs.proofs.ByteOrder.{below-irrefl, below-asym}
 
 abbrev Within : List (List ℕ) → List (List ℕ) → Type 0
@@ -85,3 +85,8 @@ module _ (O : List ℕ → Type 0) (C : Type 0) (size : ℕ) (a b : Listed) (out
 -- the list of a model's outcomes
 pub listing-unique : (m : Model) (n size : ℕ) (a b : Listed) (out buf : List ℕ) → IsListing m n size a out → IsListing m n size b buf → (a ≡ b) × (out ≡ buf)
 listing-unique m n size a b out buf x y = list-unique _ _ size a b out buf x y
+
+-- one refusal with a code
+pub refused-unique : (why size : ℕ) (a b : Listed) (out buf : List ℕ) → Refused why size a out → Refused why size b buf → (a ≡ b) × (out ≡ buf)
+refused-unique why size a b out buf x y =
+    (λ i. record { code = (x .code ∙ sym (y .code)) i; count = (x .count ∙ sym (y .count)) i; cut = (x .cut ∙ sym (y .cut)) i }, x .bytes ∙ sym (y .bytes))

@@ -6,7 +6,6 @@ ghost use mathlib.Core.List.{[]};
 ghost use Prim.Native.Nat.{_+_, _*_, _<_, _≤_};
 ghost use lib.Dec.{eqb};
 ghost use lib.ListN.{length};
-ghost use Rattle.cases.specs.Block.{byte as byteOf};
 ghost use Rattle.shelves.specs.Blocks.{blockAt, blocksOf};
 ghost use Rattle.shelves.specs.Counts.{opAt, opsOf};
 ghost use Rattle.shelves.specs.Tallies.{kept, raised, raisedAll, counted as countedOf, countedAll};
@@ -30,23 +29,13 @@ fn raise(counts: &mut [u32], k: usize)
     }
 }
 
-// The byte at position i, 0 past the end.
-fn byte(block: &[u8], i: usize) -> usize
-    ensures { λ r. ⌜ r ≡ byteOf (now (block .entry)) i ⌝ }
-{
-    if i < block.len() {
-        return words::wide(block[i]);
-    }
-    0
-}
-
 // The op in slot n, 0 where no instruction stands.
 fn op_at(block: &[u8], n: usize) -> usize
     requires { ⌜ n < 48 ⌝ }
     ensures { λ r. ⌜ r ≡ opAt (now (block .entry)) n ⌝ }
 {
-    if n % 12 < byte(block, 4 + n / 12) {
-        return byte(block, 92 + 6 * n);
+    if n % 12 < cases::number(block, 4 + n / 12) {
+        return cases::number(block, 92 + 6 * n);
     }
     0
 }

@@ -9,6 +9,7 @@ ghost use Rattle.words.specs.Sets.{has as inSet};
 ghost use Rattle.machine.specs.Shown.{shownValue};
 ghost use Rattle.boards.specs.Board.{filled, newestTo};
 ghost use Rattle.stores.specs.Log.{sitsIn, bufferOf, bufferBy, newerBy, Waits, Oldest};
+ghost use Rattle.stores.specs.Given.{Holding};
 
 // A store: its processor, its location and value, and whether it waits in a buffer still.
 pub struct Logged {
@@ -73,7 +74,7 @@ pub fn waiting(k: Buffering, log: [Logged; 48], logged: usize) -> u64
 
 // Whether a buffer of processor p holds a store.
 pub fn holding(k: Buffering, log: [Logged; 48], logged: usize, locs: u8, p: usize) -> bool
-    requires { ⌜ (p < 4) × (locs ≤ 8) × (logged ≤ 48) × (length log ≡ 48) ⌝ }
+    requires { ⌜ Holding log logged locs p ⌝ }
     ensures { λ r. ⌜ r ≡ someBelow locs (λ b. filled (bufferOf k log logged p b)) ⌝ }
 {
     let waits = waiting(k, log, logged);

@@ -6,12 +6,13 @@ use replaying::Replayed;
 ghost use mathlib.Core.Path.{_≡_};
 ghost use mathlib.Core.Bool.{cond};
 ghost use Prim.Native.Nat.{_≤_, _<_};
-ghost use lib.Dec.{eqb, ltb};
+ghost use lib.Dec.{ltb};
 ghost use lib.ListN.{length};
 ghost use Rattle.cases.specs.declared.Case.{Case as TheCase};
 ghost use Rattle.rules.specs.State.{State};
 ghost use Rattle.machine.specs.Shown.{shown, Acts};
 ghost use Rattle.machine.specs.Valid.{Valid};
+ghost use Rattle.replaying.specs.Inner.{Showing};
 ghost use Rattle.progress.specs.Causes.{oldest as oldestOf, reason as reasonOf, reasons};
 ghost use Rattle.waiting.specs.Behind.{behind as behindOf};
 ghost use Rattle.waiting.specs.Why.{IsWhy};
@@ -81,7 +82,7 @@ fn reason_byte(c: Case, m: Machine, p: usize) -> u8
 
 // Writes the reasons of a machine into a buffer of 4 bytes.
 fn show(c: Case, m: Machine, causes: &mut [u8])
-    requires { ⌜ Valid c m × (length (now causes) ≡ 4) ⌝ }
+    requires { ⌜ Showing c m 4 (now causes) ⌝ }
     ensures { λ _. ⌜ now (causes .exit) ≡ reasons c (shown c m) ⌝ }
 {
     let mut p: usize = 0;

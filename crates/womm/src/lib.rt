@@ -102,7 +102,7 @@ pub struct Answer {
 }
 
 // Asks with clauses that are held by value.
-pub fn ask_held<'b, 's>(block: &'b [u8], bound: u32, asked: Asked, schedule: &'s mut [u8]) -> Answer
+fn ask_held<'b, 's>(block: &'b [u8], bound: u32, asked: Asked, schedule: &'s mut [u8]) -> Answer
     ensures { λ r. ⌜ AskedAs (now (block .entry)) bound (clausesOf asked) (length (now (schedule .entry))) r (now (schedule .exit)) ⌝ }
 {
     let answer = asking::ask(block, bound, asked, schedule);

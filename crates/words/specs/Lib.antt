@@ -1,3 +1,4 @@
 pub mod Small
 pub mod Refusals
 pub mod Sets
+pub mod Numbers

@@ -11,28 +11,6 @@ use Rattle.boardlisting.specs.Searched.{Searched}
 use Rattle.boardlisting.proofs.Loop.{Sweeping, open-allowed, searched-stop, sweep-start, sweep-skip, sweep-turn, sweep-full}
 use Rattle.boardlisting.proofs.Sparing.{known-next}
 use Rattle.boardlisting.proofs.Whole.{ready-next, as-ready, as-move, as-bound, as-known, last-most, sweep-same, swept-all}
-use mathlib.Core.Path.{sym, _∙_, ap, subst}
-use mathlib.Core.Logic.{⊎-elim}
-use native.Mathlib.Omega.{arith}
-use lib.Bits.{bitOr}
-use borrow.Author.Needs.{needs}
-use Rattle.running.specs.Shown.{shown}
-use Rattle.running.proofs.Draining.{shown-placed}
-use Rattle.boardlisting.specs.Searched.{Searched}
-use Rattle.boardlisting.proofs.Loop.{Sweeping, open-allowed, searched-stop, sweep-start, sweep-skip, sweep-turn, sweep-full}
-use Rattle.boardlisting.proofs.Sparing.{known-next}
-use Rattle.boardlisting.proofs.Whole.{ready-next, as-ready, as-move, as-bound, as-known, last-most, sweep-same, swept-all}
-use mathlib.Core.Path.{sym, _∙_, ap, subst}
-use mathlib.Core.Logic.{⊎-elim}
-use native.Mathlib.Omega.{arith}
-use lib.Bits.{bitOr}
-use borrow.Author.Needs.{needs}
-use Rattle.running.specs.Shown.{shown}
-use Rattle.running.proofs.Draining.{shown-placed}
-use Rattle.boardlisting.specs.Searched.{Searched}
-use Rattle.boardlisting.proofs.Loop.{Sweeping, open-allowed, searched-stop, sweep-start, sweep-skip, sweep-turn, sweep-full}
-use Rattle.boardlisting.proofs.Sparing.{known-next}
-use Rattle.boardlisting.proofs.Whole.{ready-next, as-ready, as-move, as-bound, as-known, last-most, sweep-same, swept-all}
 use borrow.Fn.Kinds.{In}
 use borrow.Fn.PlainCycle.{Measures, is, falls, and}
 use Rattle.boardlisting.proofs.explore.Reads as explore
@@ -52,6 +30,13 @@ use Rattle.stores.proofs.waiting.Reads as waiting-reads
 use Rattle.words.proofs.one.Reads as one-reads
 use Rattle.boardlisting.proofs.+explore.{statement}
 use Rattle.boardlisting.proofs.+explore.Tie.{close}
+
+-- a function of a cycle is given its measure, and what it requires
+abbrev measured : {A B : Type 0} → A × B → A
+measured p = p .0
+
+abbrev given : {A B : Type 0} → A × B → B
+given p = p .1
 
 abbrev μ-explore : Measures 1 explore-kinds.ps ℕ
 μ-explore κs a = a .1 .1 .1 .1 .0
@@ -100,14 +85,14 @@ abbrev μ : explore-lts.MeasureT-loop
 μ c k s n deep spent out₀ sure waits to at₀ done₀ sum₀ out at done sum = to - at
 
 ended-requires : (t : ℕ) → explore-lts.Need-ended-requires (claims t) (at t) explore.Post Inv μ
-ended-requires t c κs = let s = c .before in s .pre .1 .valid
+ended-requires t c κs = let s = c .before in given (s .pre) .valid
 
 finish-requires : (t : ℕ) → explore-lts.Need-finish-requires (claims t) (at t) explore.Post Inv μ
 finish-requires t c κs =
     let s = c .before .before .before .before in
     let a = s .args in
-    let R = s .pre .1 in
-    (R .valid, R .held, sym (c .before .before .ended .ensures (a .k)) ∙ c .before .if1 .taken)
+    let R = given (s .pre) in
+    record { valid = R .valid; held = R .held; ended = sym (c .before .before .ended .ensures (a .k)) ∙ c .before .if1 .taken }
 
 same-length : (t : ℕ) → explore-lts.Need-same-length (claims t) (at t) explore.Post Inv μ
 same-length t c = c .before .before .finish .ensures 0 .filled .size
@@ -124,16 +109,16 @@ returns-2 : (t : ℕ) → explore-lts.Need-returns-2 (claims t) (at t) explore.P
 returns-2 t c =
     let s = c .before .before .before .before .before in
     let a = s .args in
-    let R = s .pre .1 in
+    let R = given (s .pre) in
     subst (Searched (a .k) (a .c) (shown (a .k) (a .c) (a .s)) (a .n) _ (a .tally) _) (sym (c .cut-off .ensures)) (searched-stop (a .k) (a .c) (shown (a .k) (a .c) (a .s)) (a .n) (c .before .if2 .taken) (sym (c .before .before .before .ended .ensures (a .k)) ∙ c .before .before .if1 .left) (R .held))
 
 sure-run-requires : (t : ℕ) → explore-lts.Need-sure-run-requires (claims t) (at t) explore.Post Inv μ
-sure-run-requires t c κs = let s = c .before .before .before .before in s .pre .1 .valid
+sure-run-requires t c κs = let s = c .before .before .before .before in given (s .pre) .valid
 
 waiting-requires : (t : ℕ) → explore-lts.Need-waiting-requires (claims t) (at t) explore.Post Inv μ
 waiting-requires t c κs =
     let s = c .before .before .before .before .before .before in
-    let R = s .pre .1 in
+    let R = given (s .pre) in
     (R .valid .logged, R .valid .log-long)
 
 last-of-requires : (t : ℕ) → explore-lts.Need-last-of-requires (claims t) (at t) explore.Post Inv μ
@@ -152,7 +137,7 @@ loop-holds t c =
     let en = e2 .before .before in
     let s = en .before .before in
     let a = s .args in
-    let R = s .pre .1 in
+    let R = given (s .pre) in
     let b = shown (a .k) (a .c) (a .s) in
     let more : 0 < a .n = omega (arith, e2 .if2 .left) in
     sweep-start (a .k) (a .c) b (a .n - 1) (F .first-of .result) (R .room) (R .held) (as-known more (R .known))
@@ -167,8 +152,8 @@ is-open-requires t c κs =
     let e2 = su .before in
     let en = e2 .before .before in
     let s = en .before .before in
-    let R = s .pre .1 in
-    (R .valid, omega (arith, c .loop-test .taken, la .last-of .ensures, last-most (su .sure-run .result)), wa .waiting .ensures)
+    let R = given (s .pre) in
+    record { valid = R .valid; position = omega (arith, c .loop-test .taken, la .last-of .ensures, last-most (su .sure-run .result)); waits = wa .waiting .ensures }
 
 left-after-requires : (t : ℕ) → explore-lts.Need-left-after-requires (claims t) (at t) explore.Post Inv μ
 left-after-requires t c κs =
@@ -191,9 +176,14 @@ kept-requires t c κs =
     let en = e2 .before .before in
     let s = en .before .before in
     let a = s .args in
-    let R = s .pre .1 in
+    let R = given (s .pre) in
     let b = shown (a .k) (a .c) (a .s) in
-    (R .valid, omega (arith, c .before .before .before .loop-test .taken, la .last-of .ensures, last-most (su .sure-run .result)), open-allowed (a .k) (a .c) b (L .loop .done) (L .loop .at) (sym (c .before .before .is-open .ensures) ∙ c .before .if3 .taken), L .loop .inv .known .taken)
+    record {
+      valid = R .valid;
+      position = omega (arith, c .before .before .before .loop-test .taken, la .last-of .ensures, last-most (su .sure-run .result));
+      free = open-allowed (a .k) (a .c) b (L .loop .done) (L .loop .at) (sym (c .before .before .is-open .ensures) ∙ c .before .if3 .taken);
+      taken = L .loop .inv .known .taken;
+    }
 
 take-requires : (t : ℕ) → explore-lts.Need-take-requires (claims t) (at t) explore.Post Inv μ
 take-requires t c κs =
@@ -206,9 +196,14 @@ take-requires t c κs =
     let en = e2 .before .before in
     let s = en .before .before in
     let a = s .args in
-    let R = s .pre .1 in
+    let R = given (s .pre) in
     let b = shown (a .k) (a .c) (a .s) in
-    (R .valid, omega (arith, c .before .before .before .before .loop-test .taken, la .last-of .ensures, last-most (su .sure-run .result)), omega (arith, R .few, e2 .if2 .left), open-allowed (a .k) (a .c) b (L .loop .done) (L .loop .at) (sym (c .before .before .before .is-open .ensures) ∙ c .before .before .if3 .taken))
+    record {
+      valid = R .valid;
+      position = omega (arith, c .before .before .before .before .loop-test .taken, la .last-of .ensures, last-most (su .sure-run .result));
+      room = omega (arith, R .few, e2 .if2 .left);
+      free = open-allowed (a .k) (a .c) b (L .loop .done) (L .loop .at) (sym (c .before .before .before .is-open .ensures) ∙ c .before .before .if3 .taken);
+    }
 
 sub-explore : (t : ℕ) → explore-lts.Need-sub-explore (claims t) (at t) explore.Post Inv μ
 sub-explore t c =
@@ -220,7 +215,7 @@ sub-explore t c =
     let e2 = su .before in
     let en = e2 .before .before in
     let s = en .before .before in
-    let R = s .pre .1 in
+    let R = given (s .pre) in
     omega (arith, R .depth, e2 .if2 .left)
 
 explore-requires : (t : ℕ) → explore-lts.Need-explore-requires (claims t) (at t) explore.Post Inv μ
@@ -234,7 +229,7 @@ explore-requires t c κs =
     let en = e2 .before .before in
     let s = en .before .before in
     let a = s .args in
-    let R = s .pre .1 in
+    let R = given (s .pre) in
     let b = shown (a .k) (a .c) (a .s) in
     let more : 0 < a .n = omega (arith, e2 .if2 .left) in
     let op = c .before .before .before .before .before in
@@ -243,8 +238,8 @@ explore-requires t c κs =
     let at = L .loop .at in
     let t = c .before in
     let K = known-next (a .k) (a .c) b (a .n - 1) (su .sure-run .result) at (L .loop .done) (t .before .kept .result) (shown-placed (a .k) (a .c) (a .s)) (su .sure-run .ensures) (subst (λ (f : ℕ). f ≤ at) (F .first-of .ensures) (S .late)) (subst (λ (f : ℕ). at < f) (la .last-of .ensures) (op .before .loop-test .taken)) opens (t .before .kept .ensures) (S .known) in
-    let N = ready-next R more at (open-allowed (a .k) (a .c) b (L .loop .done) at opens) (t .take .ensures .0) (t .take .ensures .1) (t .take .ensures .2 (a .n) more (R .few)) (S .room) (S .held) K in
-    (subst (λ (x : ℕ). a .deep - 1 < x) (s .pre .0) (omega (arith, N .0)), as-ready (t .before .before .left-after .ensures) (N .1))
+    let N = ready-next R more at (open-allowed (a .k) (a .c) b (L .loop .done) at opens) (t .take .ensures .shows) (t .take .ensures .valid) (t .take .ensures .few (a .n) more (R .few)) (S .room) (S .held) K in
+    (subst (λ (x : ℕ). a .deep - 1 < x) (measured (s .pre)) (omega (arith, N .0)), as-ready (t .before .before .left-after .ensures) (N .1))
 
 same-length-2 : (t : ℕ) → explore-lts.Need-same-length-2 (claims t) (at t) explore.Post Inv μ
 same-length-2 t c =
@@ -267,7 +262,7 @@ returns-3 t c =
     let a = s .args in
     let b = shown (a .k) (a .c) (a .s) in
     let more : 0 < a .n = omega (arith, e2 .if2 .left) in
-    as-bound more (sweep-full (a .k) (a .c) b (a .n - 1) (F .first-of .result) (L .loop .inv) (sym (op .is-open .ensures) ∙ t .before .before .before .if3 .taken) (as-move b (t .take .result) (L .loop .at) more (t .take .ensures .0) (t .before .before .left-after .ensures) (x .explore .ensures)) (c .if4 .taken))
+    as-bound more (sweep-full (a .k) (a .c) b (a .n - 1) (F .first-of .result) (L .loop .inv) (sym (op .is-open .ensures) ∙ t .before .before .before .if3 .taken) (as-move b (t .take .result) (L .loop .at) more (t .take .ensures .shows) (t .before .before .left-after .ensures) (x .explore .ensures)) (c .if4 .taken))
 
 one-requires : (t : ℕ) → explore-lts.Need-one-requires (claims t) (at t) explore.Post Inv μ
 one-requires t c κs =
@@ -307,7 +302,7 @@ loop-again t c =
     let b = shown (a .k) (a .c) (a .s) in
     let more : 0 < a .n = omega (arith, e2 .if2 .left) in
     let S = L .loop .inv in
-    ⊎-elim (λ w. sweep-same (w .10) (w .11 ∙ ap (bitOr (L .loop .done)) (w .9 .ensures)) (w .12) (sweep-turn (a .k) (a .c) b (a .n - 1) (F .first-of .result) S (sym (c .before .is-open .ensures) ∙ w .0 .taken) (as-move b (w .3 .result) (L .loop .at) more (w .3 .ensures .0) (w .1 .ensures) (w .5 .ensures)) (w .8 .left))) (λ w. sweep-same (w .1) (w .2) (w .3) (sweep-skip (a .k) (a .c) b (a .n - 1) (F .first-of .result) S (sym (c .before .is-open .ensures) ∙ w .0 .left))) (c .if3 .came)
+    ⊎-elim (λ w. sweep-same (w .10) (w .11 ∙ ap (bitOr (L .loop .done)) (w .9 .ensures)) (w .12) (sweep-turn (a .k) (a .c) b (a .n - 1) (F .first-of .result) S (sym (c .before .is-open .ensures) ∙ w .0 .taken) (as-move b (w .3 .result) (L .loop .at) more (w .3 .ensures .shows) (w .1 .ensures) (w .5 .ensures)) (w .8 .left))) (λ w. sweep-same (w .1) (w .2) (w .3) (sweep-skip (a .k) (a .c) b (a .n - 1) (F .first-of .result) S (sym (c .before .is-open .ensures) ∙ w .0 .left))) (c .if3 .came)
 
 same-length-3 : (t : ℕ) → explore-lts.Need-same-length-3 (claims t) (at t) explore.Post Inv μ
 same-length-3 t c = c .before .loop .inv .size
@@ -323,7 +318,7 @@ returns-4 t c =
     let en = e2 .before .before in
     let s = en .before .before in
     let a = s .args in
-    let R = s .pre .1 in
+    let R = given (s .pre) in
     let more : 0 < a .n = omega (arith, e2 .if2 .left) in
     as-bound more (swept-all (su .sure-run .result) (R .valid .fit) (sym (en .ended .ensures (a .k)) ∙ e2 .before .if1 .left) (su .sure-run .ensures) (F .first-of .ensures) (la .last-of .ensures) (L .loop .inv) (c .loop-test .left))
 

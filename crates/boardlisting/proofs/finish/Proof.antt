@@ -27,7 +27,7 @@ returns c =
     let at-registers = at-insert .before in
     let s = at-registers .before .before .before in
     let a = s .args in
-    λ n. searched-end (a .k) (a .c) (shown (a .k) (a .c) (a .s)) n (s .pre .2) (at-registers .registers .result) (at-registers .registers .ensures (a .k)) (at-insert .insert .ensures)
+    λ n. searched-end (a .k) (a .c) (shown (a .k) (a .c) (a .s)) n (s .pre .ended) (at-registers .registers .result) (at-registers .registers .ensures (a .k)) (at-insert .insert .ensures)
 
 pub finish-spec : {M : Type 1} → statement M
 finish-spec = tie.close (tie.spec registers-requires insert-requires same-length returns)

@@ -63,7 +63,7 @@ returns-3 c =
     let h = e .before in
     let s = h .before in
     let a = s .args in
-    (λ j. (ltb ((a .i - 4) / 8) (w .wide .ensures .0 j) && ltb ((a .i - 4) % 8) (w2 .wide2 .ensures .0 j)) && c .has2 .ensures j) ∙ open-drain (a .k) (a .c) (a .s) (a .waits) (a .done) (a .i) (s .pre .2) (i .if2 .left) (s .pre .1) (sym (h .has .ensures) ∙ e .if1 .left)
+    (λ j. (ltb ((a .i - 4) / 8) (w .wide .ensures .0 j) && ltb ((a .i - 4) % 8) (w2 .wide2 .ensures .0 j)) && c .has2 .ensures j) ∙ open-drain (a .k) (a .c) (a .s) (a .waits) (a .done) (a .i) (s .pre .waits) (i .if2 .left) (s .pre .position) (sym (h .has .ensures) ∙ e .if1 .left)
 
 pub is-open-spec : {M : Type 1} → statement M
 is-open-spec =

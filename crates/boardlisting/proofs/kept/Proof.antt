@@ -29,7 +29,7 @@ returns c = record { had = λ j e. e; far = λ j e h. absurd (omega (arith, c .i
 
 -- src/lib.rt:148:9
 touched-requires : tie.Need-touched-requires Inv-loop μ-loop
-touched-requires c κs = let s = c .before in (s .pre .0, s .pre .1, s .pre .2)
+touched-requires c κs = let s = c .before in record { valid = s .pre .valid; position = s .pre .position; free = s .pre .free }
 
 -- src/lib.rt:151:5
 loop-holds : tie.Need-loop-holds Inv-loop μ-loop
@@ -39,7 +39,7 @@ loop-holds c = (search needs, λ x e. absurd (false≢true (sym (has-zero x) ∙
 spared-requires : tie.Need-spared-requires Inv-loop μ-loop
 spared-requires c κs =
     let s = c .before .before .before .before in
-    (s .pre .0, omega (arith, c .loop-test .taken), s .pre .3 (c .before .loop .j))
+    record { valid = s .pre .valid; position = omega (arith, c .loop-test .taken); free = s .pre .taken (c .before .loop .j) }
 
 -- src/lib.rt:154:9
 add-j : tie.Need-add-j Inv-loop μ-loop
@@ -55,7 +55,7 @@ loop-again c =
     let at = c .before .before in
     let t = at .before in
     let a = t .before .before .args in
-    (search needs, λ x e. ⊎-elim (λ h. let w = c .spared .ensures (moveAt (a .i)) (t .touched .ensures) x h in (subst (λ (n : ℕ). has (a .done) n ≡ true) (sym (w .0)) (w .1), subst (λ (n : ℕ). apart (a .k) (a .c) (shown (a .k) (a .c) (a .s)) (moveAt (a .i)) (moveAt n) ≡ true) (sym (w .0)) (w .2))) (at .loop .inv .1 x) (or-cases _ _ (sym (has-or (c .spared .result) (at .loop .left) x) ∙ e)))
+    (search needs, λ x e. ⊎-elim (λ h. let w = c .spared .ensures (moveAt (a .i)) (t .touched .ensures) x h in (subst (λ (n : ℕ). has (a .done) n ≡ true) (sym (w .here)) (w .had), subst (λ (n : ℕ). apart (a .k) (a .c) (shown (a .k) (a .c) (a .s)) (moveAt (a .i)) (moveAt n) ≡ true) (sym (w .here)) (w .far))) (at .loop .inv .1 x) (or-cases _ _ (sym (has-or (c .spared .result) (at .loop .left) x) ∙ e)))
 
 -- src/lib.rt:141:1
 returns-2 : tie.Need-returns-2 Inv-loop μ-loop

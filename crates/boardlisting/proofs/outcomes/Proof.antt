@@ -26,7 +26,7 @@ returns c =
     let at-refuse = c .before .before in
     let at-if = at-refuse .before .before in
     let s = at-if .before .before .before .before in
-    refused-block (s .args .k) (s .args .block .now) (at-if .before .read-case .ensures) (at-if .if1 .taken) (at-refuse .refuse .ensures .0) (at-refuse .refuse .ensures .1)
+    refused-block (s .args .k) (s .args .block .now) (at-if .before .read-case .ensures) (at-if .if1 .taken) (at-refuse .refuse .ensures .refused) (at-refuse .refuse .ensures .position)
 
 -- src/lib.rt:209:9
 refuse-requires-2 : tie.Need-refuse-requires-2
@@ -42,14 +42,14 @@ returns-2 c =
     let at-refuse = c .before .before in
     let at-if = at-refuse .before .before in
     let s = at-if .before .before .before .before .before in
-    refused-bound (s .args .k) (s .args .block .now) (at-if .before .before .read-case .ensures) (at-if .before .if1 .left) (at-if .if2 .taken) (at-refuse .refuse2 .ensures .0) (at-refuse .refuse2 .ensures .1)
+    refused-bound (s .args .k) (s .args .block .now) (at-if .before .before .read-case .ensures) (at-if .before .if1 .left) (at-if .if2 .taken) (at-refuse .refuse2 .ensures .refused) (at-refuse .refuse2 .ensures .position)
 
 -- src/lib.rt:212:5
 search-requires : tie.Need-search-requires
 search-requires c κs =
     let at-if = c .before .before in
     let s = at-if .before .before .before .before .before in
-    (read-fit (s .args .k) (s .args .block .now) (at-if .before .before .read-case .ensures) (at-if .before .if1 .left), at-if .if2 .left)
+    record { fit = read-fit (s .args .k) (s .args .block .now) (at-if .before .before .read-case .ensures) (at-if .before .if1 .left); bound = at-if .if2 .left }
 
 -- src/lib.rt:200:1
 same-length-3 : tie.Need-same-length-3
@@ -61,7 +61,7 @@ returns-3 c =
     let at-search = c .before .before in
     let at-if = at-search .before .before .before in
     let s = at-if .before .before .before .before .before in
-    listed-case (s .args .k) (s .args .block .now) (at-if .before .before .read-case .ensures) (at-if .before .if1 .left) (at-if .if2 .left) (at-search .search .ensures .0) (at-search .search .ensures .1)
+    listed-case (s .args .k) (s .args .block .now) (at-if .before .before .read-case .ensures) (at-if .before .if1 .left) (at-if .if2 .left) (at-search .search .ensures .listed) (at-search .search .ensures .position)
 
 pub outcomes-spec : {M : Type 1} → statement M
 outcomes-spec =

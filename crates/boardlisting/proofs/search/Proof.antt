@@ -29,7 +29,7 @@ explore-requires c κs =
     let at-start = c .before in
     let at-clear = at-start .before .before .before in
     let s = at-clear .before .before .before in
-    ready-start (length (s .args .out .now)) (at-start .start .ensures .0) (at-start .start .ensures .1) (at-start .start .ensures .2) (s .pre .1) (at-clear .clear .ensures)
+    ready-start (length (s .args .out .now)) (at-start .start .ensures .shows) (at-start .start .ensures .valid) (at-start .start .ensures .logged) (s .pre .bound) (at-clear .clear .ensures)
 
 -- src/lib.rt:190:9
 refuse-requires : tie.Need-refuse-requires
@@ -49,7 +49,10 @@ returns c =
     let at-clear = at-start .before .before .before in
     let s = at-clear .before .before .before in
     let a = s .args in
-    (whole-unlisted (a .k) (a .c) (a .n) (length (a .out .now)) (at-clear .clear .ensures) (from-start (at-start .start .ensures .0) (at-explore .explore .ensures)) (at-if .if1 .taken) (at-refuse .refuse .ensures .0), at-refuse .refuse .ensures .1)
+    record {
+      listed = whole-unlisted (a .k) (a .c) (a .n) (length (a .out .now)) (at-clear .clear .ensures) (from-start (at-start .start .ensures .shows) (at-explore .explore .ensures)) (at-if .if1 .taken) (at-refuse .refuse .ensures .refused);
+      position = at-refuse .refuse .ensures .position;
+    }
 
 -- src/lib.rt:178:1
 same-length-2 : tie.Need-same-length-2
@@ -63,7 +66,10 @@ returns-2 c =
     let at-clear = at-start .before .before .before in
     let s = at-clear .before .before .before in
     let a = s .args in
-    (whole-listed (a .k) (a .c) (a .n) (length (a .out .now)) (at-clear .clear .ensures) (from-start (at-start .start .ensures .0) (at-explore .explore .ensures)) (c .if1 .left) refl refl refl, refl)
+    record {
+      listed = whole-listed (a .k) (a .c) (a .n) (length (a .out .now)) (at-clear .clear .ensures) (from-start (at-start .start .ensures .shows) (at-explore .explore .ensures)) (c .if1 .left) refl refl refl;
+      position = refl;
+    }
 
 pub search-spec : {M : Type 1} → statement M
 search-spec =

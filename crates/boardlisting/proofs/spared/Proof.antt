@@ -23,7 +23,7 @@ has-requires c κs = search needs
 touched-requires : tie.Need-touched-requires
 touched-requires c κs =
     let s = c .before .before in
-    (s .pre .0, s .pre .1, s .pre .2 (sym (c .before .has .ensures) ∙ c .if1 .taken))
+    record { valid = s .pre .valid; position = s .pre .position; free = s .pre .free (sym (c .before .has .ensures) ∙ c .if1 .taken) }
 
 -- src/lib.rt:133:12
 apart-requires : tie.Need-apart-requires
@@ -40,7 +40,11 @@ returns c =
     let t = p .before in
     let h = t .before .before in
     let a = h .before .args in
-    λ move T j e. (eqb-true j (a .i) (sym (has-one (a .i) j) ∙ ap (λ (n : ℕ). has n j) (sym (c .one .ensures)) ∙ e), sym (h .has .ensures) ∙ t .before .if1 .taken, sym (apart-is T (t .touched .ensures)) ∙ sym (p .apart .ensures) ∙ c .before .if2 .taken)
+    λ move T j e. record {
+      here = eqb-true j (a .i) (sym (has-one (a .i) j) ∙ ap (λ (n : ℕ). has n j) (sym (c .one .ensures)) ∙ e);
+      had = sym (h .has .ensures) ∙ t .before .if1 .taken;
+      far = sym (apart-is T (t .touched .ensures)) ∙ sym (p .apart .ensures) ∙ c .before .if2 .taken;
+    }
 
 -- src/lib.rt:128:1
 returns-2 : tie.Need-returns-2

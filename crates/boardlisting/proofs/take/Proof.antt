@@ -20,7 +20,11 @@ run-requires : tie.Need-run-requires
 run-requires c κs =
     let s = c .before in
     let a = s .args in
-    (s .pre .0, s .pre .2, subst (λ (m : Move). allowed (a .k) (a .c) (shown (a .k) (a .c) (a .s)) m ≡ true) (cond-true _ _ _ (lt-ltb (a .i) 4 (c .if1 .taken))) (s .pre .3))
+    record {
+      valid = s .pre .valid;
+      room = s .pre .room;
+      free = subst (λ (m : Move). allowed (a .k) (a .c) (shown (a .k) (a .c) (a .s)) m ≡ true) (cond-true _ _ _ (lt-ltb (a .i) 4 (c .if1 .taken))) (s .pre .free);
+    }
 
 -- src/lib.rt:54:9
 returns : tie.Need-returns
@@ -28,14 +32,22 @@ returns c =
     let s = c .before .before in
     let a = s .args in
     let e = lt-ltb (a .i) 4 (c .before .if1 .taken) in
-    (c .run .ensures .0 ∙ moved-run (a .k) (a .c) (shown (a .k) (a .c) (a .s)) (a .i) ∙ ap (moved (a .k) (a .c) (shown (a .k) (a .c) (a .s))) (sym (cond-true _ _ _ e)), c .run .ensures .1, λ n h g. rw e (omega (arith, c .run .ensures .2)))
+    record {
+      shows = c .run .ensures .shows ∙ moved-run (a .k) (a .c) (shown (a .k) (a .c) (a .s)) (a .i) ∙ ap (moved (a .k) (a .c) (shown (a .k) (a .c) (a .s))) (sym (cond-true _ _ _ e));
+      valid = c .run .ensures .valid;
+      few = λ n h g. rw e (omega (arith, c .run .ensures .logged));
+    }
 
 -- src/lib.rt:57:5
 drain-requires : tie.Need-drain-requires
 drain-requires c κs =
     let s = c .before in
     let a = s .args in
-    (s .pre .0, omega arith, subst (λ (m : Move). allowed (a .k) (a .c) (shown (a .k) (a .c) (a .s)) m ≡ true) (cond-false _ _ _ (le-ltb (a .i) 4 (c .if1 .left))) (s .pre .3))
+    record {
+      valid = s .pre .valid;
+      buffer = omega arith;
+      free = subst (λ (m : Move). allowed (a .k) (a .c) (shown (a .k) (a .c) (a .s)) m ≡ true) (cond-false _ _ _ (le-ltb (a .i) 4 (c .if1 .left))) (s .pre .free);
+    }
 
 -- src/lib.rt:49:1
 returns-2 : tie.Need-returns-2
@@ -43,7 +55,11 @@ returns-2 c =
     let s = c .before .before in
     let a = s .args in
     let e = le-ltb (a .i) 4 (c .before .if1 .left) in
-    (c .drain .ensures .0 ∙ ap (moved (a .k) (a .c) (shown (a .k) (a .c) (a .s))) (sym (cond-false _ _ _ e)), c .drain .ensures .1, λ n h g. rw e (omega (arith, c .drain .ensures .2)))
+    record {
+      shows = c .drain .ensures .shows ∙ ap (moved (a .k) (a .c) (shown (a .k) (a .c) (a .s))) (sym (cond-false _ _ _ e));
+      valid = c .drain .ensures .valid;
+      few = λ n h g. rw e (omega (arith, c .drain .ensures .logged));
+    }
 
 pub take-spec : {M : Type 1} → statement M
 take-spec = tie.close (tie.spec run-requires returns drain-requires returns-2)

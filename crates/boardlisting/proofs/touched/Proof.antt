@@ -19,7 +19,11 @@ glance-requires : tie.Need-glance-requires
 glance-requires c κs =
     let s = c .before in
     let a = s .args in
-    (s .pre .0, c .if1 .taken, subst (λ (m : Move). allowed (a .k) (a .c) (shown (a .k) (a .c) (a .s)) m ≡ true) (cond-true _ _ _ (lt-ltb (a .i) 4 (c .if1 .taken))) (s .pre .2))
+    record {
+      valid = s .pre .valid;
+      proc = c .if1 .taken;
+      free = subst (λ (m : Move). allowed (a .k) (a .c) (shown (a .k) (a .c) (a .s)) m ≡ true) (cond-true _ _ _ (lt-ltb (a .i) 4 (c .if1 .taken))) (s .pre .free);
+    }
 
 -- src/lib.rt:98:9
 returns : tie.Need-returns
@@ -33,7 +37,11 @@ drain-at-requires : tie.Need-drain-at-requires
 drain-at-requires c κs =
     let s = c .before in
     let a = s .args in
-    (s .pre .0, omega arith, subst (λ (m : Move). allowed (a .k) (a .c) (shown (a .k) (a .c) (a .s)) m ≡ true) (cond-false _ _ _ (le-ltb (a .i) 4 (c .if1 .left))) (s .pre .2))
+    record {
+      valid = s .pre .valid;
+      buffer = omega arith;
+      free = subst (λ (m : Move). allowed (a .k) (a .c) (shown (a .k) (a .c) (a .s)) m ≡ true) (cond-false _ _ _ (le-ltb (a .i) 4 (c .if1 .left))) (s .pre .free);
+    }
 
 -- src/lib.rt:110:13
 cast-t14 : tie.Need-cast-t14

@@ -32,7 +32,7 @@ returns-2 c =
     let fill = seal .before .before .before .before in
     let at = fill .before .before in
     let a = at .before .before .args in
-    written-by (a .case) (a .block .now) (seal .seal .last .0) (seal .seal .result) (fill .fill .last .1 .0) (at .if1 .left) (fill .fill .ensures .1) (fill .fill .ensures .0) (seal .seal .ensures)
+    written-by (a .case) (a .block .now) (seal .seal .last .0) (seal .seal .result) (fill .fill .last .1 .0) (at .if1 .left) (fill .fill .ensures .long) (fill .fill .ensures .holds) (seal .seal .ensures)
 
 pub write-case-spec : {M : Type 1} → statement M
 write-case-spec =

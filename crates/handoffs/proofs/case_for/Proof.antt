@@ -23,11 +23,11 @@ plan-of-requires-2 c κs = search needs
 
 -- src/lib.rt:237:18
 cast-t7 : tie.Need-cast-t7
-cast-t7 c = let at-plan = c .before in omega (arith, ap (λ (p : Plan). p .count) (at-plan .plan-of .ensures), at-plan .before .before .before .pre .0)
+cast-t7 c = let at-plan = c .before in omega (arith, ap (λ (p : Plan). p .count) (at-plan .plan-of .ensures), at-plan .before .before .before .pre .sender)
 
 -- src/lib.rt:237:27
 cast-t8 : tie.Need-cast-t8
-cast-t8 c = omega (arith, ap (λ (p : Plan). p .count) (c .plan-of2 .ensures), c .before .before .before .before .pre .1)
+cast-t8 c = omega (arith, ap (λ (p : Plan). p .count) (c .plan-of2 .ensures), c .before .before .before .before .pre .receiver)
 
 -- src/lib.rt:239:18
 presets-requires : tie.Need-presets-requires

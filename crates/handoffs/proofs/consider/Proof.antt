@@ -25,7 +25,13 @@ improve-requires c κs =
     let at-touched = at-if .before in
     let start = at-touched .before .before in
     let a = start .args in
-    (start .pre .0, start .pre .1, asked-askable (a .ready) (a .k) (at-asked .asked-for .ensures) (start .pre .2) (start .pre .3 (touched-word (a .sending) (a .d) (at-touched .touched-by .ensures) (at-if .if1 .taken))), start .pre .4, start .pre .5)
+    record {
+      fit = start .pre .fit;
+      bound = start .pre .bound;
+      askable = asked-askable (a .ready) (a .k) (at-asked .asked-for .ensures) (start .pre .ready-low) (start .pre .low (touched-word (a .sending) (a .d) (at-touched .touched-by .ensures) (at-if .if1 .taken)));
+      level = start .pre .level;
+      long = start .pre .long;
+    }
 
 -- src/lib.rt:327:9
 same-length : tie.Need-same-length

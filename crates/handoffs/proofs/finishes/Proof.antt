@@ -19,7 +19,7 @@ slice-aggregate-settle c = search needs
 
 -- src/lib.rt:358:9
 settle-requires : tie.Need-settle-requires
-settle-requires c κs = let start = c .before .before in (start .pre .0, start .pre .1, none-askable (c .before .no-clauses .ensures), refl)
+settle-requires c κs = let start = c .before .before in (start .pre .fit, start .pre .bound, none-askable (c .before .no-clauses .ensures), refl)
 
 -- src/lib.rt:353:1
 returns : tie.Need-returns

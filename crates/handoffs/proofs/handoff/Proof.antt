@@ -39,7 +39,7 @@ judge-requires c κs =
     let at-if2 = c .before in
     let at-if1 = at-if2 .before in
     let at-legal = at-if1 .before in
-    (sym (at-legal .legal .ensures) ∙ at-if1 .if1 .taken, at-if2 .if2 .left)
+    record { lawful = sym (at-legal .legal .ensures) ∙ at-if1 .if1 .taken; long = at-if2 .if2 .left }
 
 -- src/lib.rt:436:9
 same-length-2 : tie.Need-same-length-2

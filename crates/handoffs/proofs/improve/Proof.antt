@@ -48,7 +48,7 @@ returns c =
     let at-if1 = at-if2 .before in
     let at-settle = at-if1 .before .before in
     let start = at-settle .before .before .before in
-    improve-lower (at-settle .settle .ensures .0) (start .pre .3) (at-if1 .if1 .taken) (at-if2 .if2 .taken) (sym (at-below .below .ensures) ∙ at-if3 .if3 .taken) (over-all _ (start .args .out .now) (search needs) (at-write .write .ensures))
+    improve-lower (at-settle .settle .ensures .0) (start .pre .level) (at-if1 .if1 .taken) (at-if2 .if2 .taken) (sym (at-below .below .ensures) ∙ at-if3 .if3 .taken) (over-all _ (start .args .out .now) (search needs) (at-write .write .ensures))
 
 -- src/lib.rt:306:13
 same-length-2 : tie.Need-same-length-2
@@ -62,7 +62,7 @@ returns-2 c =
     let at-if1 = at-if2 .before in
     let at-settle = at-if1 .before .before in
     let start = at-settle .before .before .before in
-    improve-kept (at-settle .settle .ensures .0) (start .pre .3) (at-if1 .if1 .taken) (at-if2 .if2 .taken) (sym (at-below .below .ensures) ∙ c .if3 .left)
+    improve-kept (at-settle .settle .ensures .0) (start .pre .level) (at-if1 .if1 .taken) (at-if2 .if2 .taken) (sym (at-below .below .ensures) ∙ c .if3 .left)
 
 -- src/lib.rt:308:29
 slice-aggregate-write-2 : tie.Need-slice-aggregate-write-2

@@ -18,8 +18,8 @@ case-for-requires c κs =
     let start = c .before .before .before in
     let s = start .args .sending .now in
     let r = start .args .receiving .now in
-    let L = legal-parts s r (start .pre .0) in
-    (few-long s (L .sender), few-long r (L .receiver))
+    let L = legal-parts s r (start .pre .lawful) in
+    record { sender = few-long s (L .sender); receiver = few-long r (L .receiver) }
 
 -- src/lib.rt:368:9
 plan-of-requires : tie.Need-plan-of-requires
@@ -38,7 +38,7 @@ add-n c =
     let start = at0 .before .before .before .before in
     let s = start .args .sending .now in
     let r = start .args .receiving .now in
-    omega (arith, judge-small s r (start .pre .0) (at0 .case-for .ensures) (at1 .plan-of .ensures) (at2 .plan-of2 .ensures))
+    omega (arith, judge-small s r (start .pre .lawful) (at0 .case-for .ensures) (at1 .plan-of .ensures) (at2 .plan-of2 .ensures))
 
 -- src/lib.rt:370:13
 mul-n : tie.Need-mul-n
@@ -49,7 +49,7 @@ mul-n c =
     let start = at0 .before .before .before .before in
     let s = start .args .sending .now in
     let r = start .args .receiving .now in
-    omega (arith, judge-small s r (start .pre .0) (at0 .case-for .ensures) (at1 .plan-of .ensures) (at2 .plan-of2 .ensures))
+    omega (arith, judge-small s r (start .pre .lawful) (at0 .case-for .ensures) (at1 .plan-of .ensures) (at2 .plan-of2 .ensures))
 
 -- src/lib.rt:371:9
 stalest-requires : tie.Need-stalest-requires
@@ -60,11 +60,11 @@ stalest-requires c κs =
     let start = at0 .before .before .before .before in
     let s = start .args .sending .now in
     let r = start .args .receiving .now in
-    let h = start .pre .0 in
+    let h = start .pre .lawful in
     let x = at0 .case-for .ensures in
     let y = at1 .plan-of .ensures in
     let z = at2 .plan-of2 .ensures in
-    (judge-fit s r h x y z, judge-small s r h x y z, judge-few s r h x y z, judge-level s r h x y z, start .pre .1)
+    record { fit = judge-fit s r h x y z; bound = judge-small s r h x y z; few = judge-few s r h x y z; level = judge-level s r h x y z; long = start .pre .long }
 
 -- src/lib.rt:373:9
 same-length : tie.Need-same-length
@@ -80,7 +80,7 @@ returns c =
     let start = at0 .before .before .before .before in
     let s = start .args .sending .now in
     let r = start .args .receiving .now in
-    judged-stale s r (start .pre .0) (at0 .case-for .ensures) (at1 .plan-of .ensures) (at2 .plan-of2 .ensures) (at-stalest .stalest .ensures) (c .if1 .taken)
+    judged-stale s r (start .pre .lawful) (at0 .case-for .ensures) (at1 .plan-of .ensures) (at2 .plan-of2 .ensures) (at-stalest .stalest .ensures) (c .if1 .taken)
 
 -- src/lib.rt:379:8
 finishes-requires : tie.Need-finishes-requires
@@ -92,11 +92,11 @@ finishes-requires c κs =
     let start = at0 .before .before .before .before in
     let s = start .args .sending .now in
     let r = start .args .receiving .now in
-    let h = start .pre .0 in
+    let h = start .pre .lawful in
     let x = at0 .case-for .ensures in
     let y = at1 .plan-of .ensures in
     let z = at2 .plan-of2 .ensures in
-    (judge-fit s r h x y z, judge-small s r h x y z)
+    record { fit = judge-fit s r h x y z; bound = judge-small s r h x y z }
 
 -- src/lib.rt:380:9
 same-length-2 : tie.Need-same-length-2
@@ -114,7 +114,7 @@ returns-2 c =
     let start = at0 .before .before .before .before in
     let s = start .args .sending .now in
     let r = start .args .receiving .now in
-    judged-safe s r (start .pre .0) (at0 .case-for .ensures) (at1 .plan-of .ensures) (at2 .plan-of2 .ensures) (at-stalest .stalest .ensures) (at-if .if1 .left) (at-any .finishes .ensures) (c .if2 .taken)
+    judged-safe s r (start .pre .lawful) (at0 .case-for .ensures) (at1 .plan-of .ensures) (at2 .plan-of2 .ensures) (at-stalest .stalest .ensures) (at-if .if1 .left) (at-any .finishes .ensures) (c .if2 .taken)
 
 -- src/lib.rt:363:1
 same-length-3 : tie.Need-same-length-3
@@ -132,7 +132,7 @@ returns-3 c =
     let start = at0 .before .before .before .before in
     let s = start .args .sending .now in
     let r = start .args .receiving .now in
-    judged-stuck s r (start .pre .0) (at0 .case-for .ensures) (at1 .plan-of .ensures) (at2 .plan-of2 .ensures) (at-stalest .stalest .ensures) (at-if .if1 .left) (at-any .finishes .ensures) (c .if2 .left)
+    judged-stuck s r (start .pre .lawful) (at0 .case-for .ensures) (at1 .plan-of .ensures) (at2 .plan-of2 .ensures) (at-stalest .stalest .ensures) (at-if .if1 .left) (at-any .finishes .ensures) (c .if2 .left)
 
 pub judge-spec : {M : Type 1} → statement M
 judge-spec =

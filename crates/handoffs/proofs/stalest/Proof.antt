@@ -43,9 +43,17 @@ consider-two-requires-2 c κs =
     let f1 = f2 .before in
     let at-ready = f1 .before in
     let start = at-ready .before .before .before .before .before .before in
-    let F = start .pre .2 in
+    let F = start .pre .few in
     let r = start .args .r in
-    (start .pre .0, start .pre .1, few-ready r F (at-ready .ready-at .ensures), few-third r F (f1 .fresh .ensures) (f2 .fresh2 .ensures), few-fourth r F (f1 .fresh .ensures) (f2 .fresh2 .ensures) (f3 .fresh3 .ensures), start .pre .3, search needs)
+    record {
+      fit = start .pre .fit;
+      bound = start .pre .bound;
+      ready-low = few-ready r F (at-ready .ready-at .ensures);
+      low = few-third r F (f1 .fresh .ensures) (f2 .fresh2 .ensures);
+      other-low = few-fourth r F (f1 .fresh .ensures) (f2 .fresh2 .ensures) (f3 .fresh3 .ensures);
+      level = start .pre .level;
+      long = search needs;
+    }
 
 -- src/lib.rt:358:1
 same-length : tie.Need-same-length
@@ -63,7 +71,7 @@ returns c =
     let at-clear = at-ready .before .before .before in
     let start = at-clear .before .before .before in
     let a = start .args in
-    low-all (a .c) (a .n) (a .s) (a .r) (all-clear (a .out .now) (at-clear .clear .ensures) (start .pre .4)) (at-ready .ready-at .ensures) (f1 .fresh .ensures) (f2 .fresh2 .ensures) (f3 .fresh3 .ensures) (first .consider-two .ensures) (second .consider-two2 .ensures)
+    low-all (a .c) (a .n) (a .s) (a .r) (all-clear (a .out .now) (at-clear .clear .ensures) (start .pre .long)) (at-ready .ready-at .ensures) (f1 .fresh .ensures) (f2 .fresh2 .ensures) (f3 .fresh3 .ensures) (first .consider-two .ensures) (second .consider-two2 .ensures)
 
 pub stalest-spec : {M : Type 1} → statement M
 stalest-spec =

@@ -17,7 +17,7 @@ returns : tie.Need-returns
 returns c =
     let at-refuse = c .before .before in
     let at-if = at-refuse .before .before in
-    refused-block (at-if .before .before .before .before .args .block .now) (at-if .before .read-case .ensures) (at-if .if1 .taken) (at-refuse .refuse .ensures .0) (at-refuse .refuse .ensures .1)
+    refused-block (at-if .before .before .before .before .args .block .now) (at-if .before .read-case .ensures) (at-if .if1 .taken) (at-refuse .refuse .ensures .refused) (at-refuse .refuse .ensures .position)
 
 refuse-requires-2 : tie.Need-refuse-requires-2
 refuse-requires-2 c κs = search needs
@@ -29,12 +29,12 @@ returns-2 : tie.Need-returns-2
 returns-2 c =
     let at-refuse = c .before .before in
     let at-if = at-refuse .before .before in
-    refused-bound (at-if .before .before .before .before .before .args .block .now) (at-if .before .before .read-case .ensures) (at-if .before .if1 .left) (at-if .if2 .taken) (at-refuse .refuse2 .ensures .0) (at-refuse .refuse2 .ensures .1)
+    refused-bound (at-if .before .before .before .before .before .args .block .now) (at-if .before .before .read-case .ensures) (at-if .before .if1 .left) (at-if .if2 .taken) (at-refuse .refuse2 .ensures .refused) (at-refuse .refuse2 .ensures .position)
 
 search-requires : tie.Need-search-requires
 search-requires c κs =
     let at-if = c .before .before in
-    (read-fit (at-if .before .before .before .before .before .args .block .now) (at-if .before .before .read-case .ensures) (at-if .before .if1 .left), at-if .if2 .left)
+    record { fit = read-fit (at-if .before .before .before .before .before .args .block .now) (at-if .before .before .read-case .ensures) (at-if .before .if1 .left); bound = at-if .if2 .left }
 
 same-length-3 : tie.Need-same-length-3
 same-length-3 c = search needs
@@ -43,7 +43,7 @@ returns-3 : tie.Need-returns-3
 returns-3 c =
     let at-search = c .before .before in
     let at-if = at-search .before .before .before in
-    listed-case (at-if .before .before .before .before .before .args .block .now) (at-if .before .before .read-case .ensures) (at-if .before .if1 .left) (at-if .if2 .left) (at-search .search .ensures .0) (at-search .search .ensures .1)
+    listed-case (at-if .before .before .before .before .before .args .block .now) (at-if .before .before .read-case .ensures) (at-if .before .if1 .left) (at-if .if2 .left) (at-search .search .ensures .listed) (at-search .search .ensures .position)
 
 pub outcomes-spec : {M : Type 1} → statement M
 outcomes-spec =

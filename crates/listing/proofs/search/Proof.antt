@@ -38,7 +38,7 @@ explore-requires c κs =
     let at-start = at-forward .before in
     let at-clear = at-start .before .before .before in
     let start = at-clear .before .before .before in
-    ready-list (length (start .args .out .now)) (at-none .no-clauses .ensures) (at-start .start .ensures .0) (at-start .start .ensures .1) (at-forward .forward .ensures) (start .pre .1) (at-clear .clear .ensures)
+    ready-list (length (start .args .out .now)) (at-none .no-clauses .ensures) (at-start .start .ensures .0) (at-start .start .ensures .1) (at-forward .forward .ensures) (start .pre .bound) (at-clear .clear .ensures)
 
 -- src/lib.rt:52:9
 refuse-requires : tie.Need-refuse-requires
@@ -59,7 +59,10 @@ returns c =
     let at-clear = at-start .before .before .before in
     let start = at-clear .before .before .before in
     let a = start .args in
-    (whole-unlisted (a .c) (a .n) (length (a .out .now)) (at-clear .clear .ensures) (from-start (at-none .no-clauses .ensures) (at-start .start .ensures .0) (at-explore .explore .ensures)) (at-if .if1 .taken) (at-refuse .refuse .ensures .0), at-refuse .refuse .ensures .1)
+    record {
+      listed = whole-unlisted (a .c) (a .n) (length (a .out .now)) (at-clear .clear .ensures) (from-start (at-none .no-clauses .ensures) (at-start .start .ensures .0) (at-explore .explore .ensures)) (at-if .if1 .taken) (at-refuse .refuse .ensures .refused);
+      position = at-refuse .refuse .ensures .position;
+    }
 
 -- src/lib.rt:31:1
 same-length-2 : tie.Need-same-length-2
@@ -74,7 +77,10 @@ returns-2 c =
     let at-clear = at-start .before .before .before in
     let start = at-clear .before .before .before in
     let a = start .args in
-    (whole-listed (a .c) (a .n) (length (a .out .now)) (at-clear .clear .ensures) (from-start (at-none .no-clauses .ensures) (at-start .start .ensures .0) (at-explore .explore .ensures)) (c .if1 .left) refl refl refl, refl)
+    record {
+      listed = whole-listed (a .c) (a .n) (length (a .out .now)) (at-clear .clear .ensures) (from-start (at-none .no-clauses .ensures) (at-start .start .ensures .0) (at-explore .explore .ensures)) (c .if1 .left) refl refl refl;
+      position = refl;
+    }
 
 pub search-spec : {M : Type 1} → statement M
 search-spec =

@@ -68,7 +68,7 @@ loop-again c =
     let turn = c .before .before .before .before in
     let start = turn .before .before .before in
     let mid = turn .loop .low + (turn .loop .high - turn .loop .low) / 2 in
-    (omega arith, omega arith, between-up (start .pre .0) (start .args .r .now) (turn .loop .inv .2) mid (omega arith) (sym (compared (c .before)) ∙ c .if1 .taken))
+    (omega arith, omega arith, between-up (start .pre .held) (start .args .r .now) (turn .loop .inv .2) mid (omega arith) (sym (compared (c .before)) ∙ c .if1 .taken))
 
 loop-less-2 : tie.Need-loop-less-2 Inv-loop μ-loop
 loop-less-2 c = search needs
@@ -78,7 +78,7 @@ loop-again-2 c =
     let turn = c .before .before .before .before in
     let start = turn .before .before .before in
     let mid = turn .loop .low + (turn .loop .high - turn .loop .low) / 2 in
-    (omega arith, omega arith, between-down (start .pre .0) (start .args .r .now) (turn .loop .inv .2) mid (sym (compared (c .before)) ∙ c .if1 .left))
+    (omega arith, omega arith, between-down (start .pre .held) (start .args .r .now) (turn .loop .inv .2) mid (sym (compared (c .before)) ∙ c .if1 .left))
 
 returns : tie.Need-returns Inv-loop μ-loop
 returns c =

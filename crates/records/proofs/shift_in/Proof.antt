@@ -28,7 +28,7 @@ returns c =
     let front : length (take 96 tail) ≡ 96 = length-take-le 96 tail (omega arith) in
     wrote .ensures
     ∙ ap (λ (xs : List ℕ). r ++ drop (length r) xs) (moved .ensures)
-    ∙ ap (λ (k : ℕ). r ++ drop k (take 96 tail ++ (take used tail ++ drop (used + 96) tail))) (start .pre .1)
+    ∙ ap (λ (k : ℕ). r ++ drop k (take 96 tail ++ (take used tail ++ drop (used + 96) tail))) (start .pre .long)
     ∙ ap (λ (xs : List ℕ). r ++ xs) (drop-at (take 96 tail) (take used tail ++ drop (used + 96) tail) 96 front)
 
 pub shift-in-spec : {M : Type 1} → statement M

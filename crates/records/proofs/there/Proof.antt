@@ -15,7 +15,7 @@ use Rattle.records.proofs.there.Tie as tie
 returns : tie.Need-returns
 returns c =
     let start = c .before .before .before in
-    past-all (start .pre .0) (start .args .r .now) (start .pre .2) (c .if1 .taken)
+    past-all (start .pre .held) (start .args .r .now) (start .pre .place) (c .if1 .taken)
 
 mul-from : tie.Need-mul-from
 mul-from c = search needs
@@ -41,7 +41,7 @@ returns-2 c =
     let out = start .args .out .now in
     let r = start .args .r .now in
     let said = c .below .ensures ∙ ap (λ (x : List ℕ). below r x) (record-part out (start .args .at)) in
-    subst (λ (b : Bool). (not b ≡ true) ↔ Among out (start .args .n) r) (sym said) (stands-at (start .pre .0) r (start .pre .2) (omega arith))
+    subst (λ (b : Bool). (not b ≡ true) ↔ Among out (start .args .n) r) (sym said) (stands-at (start .pre .held) r (start .pre .place) (omega arith))
 
 pub there-spec : {M : Type 1} → statement M
 there-spec =

@@ -18,7 +18,7 @@ abbrev μ-loop : tie.MeasureT-loop
 μ-loop c acts issued result₀ registers places i₀ result i = 104 - i
 
 loop-holds : tie.Need-loop-holds Inv-loop μ-loop
-loop-holds c = (search needs, c .before .pre .2, λ s h p r j lt. absurd (omega arith))
+loop-holds c = (search needs, c .before .pre .long, λ s h p r j lt. absurd (omega arith))
 
 result-byte-requires : tie.Need-result-byte-requires Inv-loop μ-loop
 result-byte-requires c κs = search needs

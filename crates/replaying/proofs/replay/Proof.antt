@@ -37,7 +37,10 @@ walk-requires c κs =
     let read = refusal .before in
     let a = read .before .before .before .before .args in
     let z = sym (else .before .if1 .left) ∙ code-is result (a .block .now) (a .schedule .now) (length (a .result .now)) _ (read .read-case .result) (read .read-case .ensures) (refusal .refusal .ensures) in
-    (subst Fit (sym (read-as (a .block .now) (read .read-case .ensures) (own-none result (a .block .now) (a .schedule .now) (length (a .result .now)) z))) (case-fit result (a .block .now) (a .schedule .now) (length (a .result .now)) z), in-fours result (a .block .now) (a .schedule .now) (length (a .result .now)) z)
+    record {
+      fit = subst Fit (sym (read-as (a .block .now) (read .read-case .ensures) (own-none result (a .block .now) (a .schedule .now) (length (a .result .now)) z))) (case-fit result (a .block .now) (a .schedule .now) (length (a .result .now)) z);
+      whole = in-fours result (a .block .now) (a .schedule .now) (length (a .result .now)) z;
+    }
 
 show-requires : tie.Need-show-requires
 show-requires c κs =
@@ -47,7 +50,7 @@ show-requires c κs =
     let read = refusal .before in
     let a = read .before .before .before .before .args in
     let z = sym (else .if1 .left) ∙ code-is result (a .block .now) (a .schedule .now) (length (a .result .now)) _ (read .read-case .result) (read .read-case .ensures) (refusal .refusal .ensures) in
-    (walk .walk .ensures .valid, right-size result (a .block .now) (a .schedule .now) (length (a .result .now)) z)
+    record { valid = walk .walk .ensures .valid; long = right-size result (a .block .now) (a .schedule .now) (length (a .result .now)) z }
 
 same-length-2 : tie.Need-same-length-2
 same-length-2 c = search needs

@@ -53,7 +53,7 @@ returns : tie.Need-returns Inv-loop μ-loop
 returns c =
     let at = c .before .before .before .before .before .before .before .before in
     let a = c .before .before .before .before .before .before .before .before .before .before .before .args in
-    let f : 4 * at .loop .steps + 4 ≤ length (a .schedule .now) = omega (arith, c .before .before .before .before .before .before .before .loop-test .taken, c .before .before .before .before .before .before .before .before .before .before .before .pre .1) in
+    let f : 4 * at .loop .steps + 4 ≤ length (a .schedule .now) = omega (arith, c .before .before .before .before .before .before .before .loop-test .taken, c .before .before .before .before .before .before .before .before .before .before .before .pre .whole) in
     reached-stop (a .schedule .now) (a .c) (at .loop .steps) (at .loop .m) (c .before .before .step .result) f (at .loop .inv .2) (c .before .before .step .ensures) (c .if1 .taken)
 
 add-steps : tie.Need-add-steps Inv-loop μ-loop
@@ -66,7 +66,7 @@ loop-again : tie.Need-loop-again Inv-loop μ-loop
 loop-again c =
     let at = c .before .before .before .before .before .before .before .before in
     let a = c .before .before .before .before .before .before .before .before .before .before .before .args in
-    let f : 4 * at .loop .steps + 4 ≤ length (a .schedule .now) = omega (arith, c .before .before .before .before .before .before .before .loop-test .taken, c .before .before .before .before .before .before .before .before .before .before .before .pre .1) in
+    let f : 4 * at .loop .steps + 4 ≤ length (a .schedule .now) = omega (arith, c .before .before .before .before .before .before .before .loop-test .taken, c .before .before .before .before .before .before .before .before .before .before .before .pre .whole) in
     (omega arith, c .before .before .step .ensures .valid, reached-next (a .schedule .now) (a .c) (at .loop .steps) (at .loop .m) (c .before .before .step .result) f (at .loop .inv .2) (c .before .before .step .ensures) (c .if1 .left))
 
 returns-2 : tie.Need-returns-2 Inv-loop μ-loop

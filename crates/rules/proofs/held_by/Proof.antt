@@ -13,7 +13,7 @@ array-read-h : tie.Need-array-read-h
 array-read-h c = search needs
 
 returns : tie.Need-returns
-returns c = let s = c .before in table-rule (s .args .k) (s .args .q) (s .args .same) (s .pre .0) (s .pre .1)
+returns c = let s = c .before in table-rule (s .args .k) (s .args .q) (s .args .same) (s .pre .first) (s .pre .second)
 
 pub held-by-spec : {M : Type 1} → statement M
 held-by-spec = tie.close (tie.spec mul-row array-copy-out-row array-read-h returns)

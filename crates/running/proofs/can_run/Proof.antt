@@ -60,7 +60,7 @@ element-copy-out-t : tie.Need-element-copy-out-t
 element-copy-out-t c =
     let e1 = c .before .before .before .before in
     let s = e1 .before .before in
-    omega (arith, c .before .if2 .left, s .pre .0 .fit .counts (s .args .p), s .pre .1, c .wide2 .ensures .0)
+    omega (arith, c .before .if2 .left, s .pre .valid .fit .counts (s .args .p), s .pre .proc, c .wide2 .ensures .0)
 
 -- src/lib.rt:244:6
 bars-requires : tie.Need-bars-requires
@@ -75,7 +75,7 @@ returns-3 c =
     let a = s .args in
     let place = getD (a .t3 .places) (a .p) 0 in
     let w : c .before .before .wide2 .result ≡ place = c .before .before .wide2 .ensures .0 in
-    ap not (c .bars .ensures ∙ ap (λ (n : ℕ). barsBy (a .k) (a .t3) (a .t1 .locs) (a .p) (instrAt (a .t1) (a .p) n)) w) ∙ bars-is (a .k) (a .t1) (a .t3) (a .p) (omega (arith, e1 .before .wide .ensures .0, e1 .if1 .left)) (e2 .if2 .left) (s .pre .1) (s .pre .0 .fit .fine (a .p) place (s .pre .1) (e2 .if2 .left))
+    ap not (c .bars .ensures ∙ ap (λ (n : ℕ). barsBy (a .k) (a .t3) (a .t1 .locs) (a .p) (instrAt (a .t1) (a .p) n)) w) ∙ bars-is (a .k) (a .t1) (a .t3) (a .p) (omega (arith, e1 .before .wide .ensures .0, e1 .if1 .left)) (e2 .if2 .left) (s .pre .proc) (s .pre .valid .fit .fine (a .p) place (s .pre .proc) (e2 .if2 .left))
 
 pub can-run-spec : {M : Type 1} → statement M
 can-run-spec =

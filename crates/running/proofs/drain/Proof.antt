@@ -22,7 +22,7 @@ element-copy-out-x : tie.Need-element-copy-out-x
 element-copy-out-x c =
     let s = c .before .before in
     let a = s .args in
-    omega (arith, oldest-low (a .k) (a .c) (a .t3) (a .p) (a .b) (c .oldest .result) (s .pre .0) (s .pre .2) (c .oldest .ensures), s .pre .0 .logged, s .pre .0 .log-long)
+    omega (arith, oldest-low (a .k) (a .c) (a .t3) (a .p) (a .b) (c .oldest .result) (s .pre) (c .oldest .ensures), s .pre .valid .logged, s .pre .valid .log-long)
 
 -- src/lib.rt:409:14
 wide-requires : tie.Need-wide-requires
@@ -38,7 +38,7 @@ element-write-n c =
     let o = c .before .before in
     let s = o .before .before in
     let a = s .args in
-    omega (arith, oldest-loc (a .k) (a .c) (a .t3) (a .p) (a .b) (o .oldest .result) (s .pre .0) (s .pre .2) (o .oldest .ensures), s .pre .0 .memory-long, c .wide .ensures .0)
+    omega (arith, oldest-loc (a .k) (a .c) (a .t3) (a .p) (a .b) (o .oldest .result) (s .pre) (o .oldest .ensures), s .pre .valid .memory-long, c .wide .ensures .0)
 
 -- src/lib.rt:410:5
 mul-t16 : tie.Need-mul-t16
@@ -50,7 +50,7 @@ element-set-from-n c =
     let o = c .before .before in
     let s = o .before .before in
     let a = s .args in
-    omega (arith, oldest-low (a .k) (a .c) (a .t3) (a .p) (a .b) (o .oldest .result) (s .pre .0) (s .pre .2) (o .oldest .ensures), s .pre .0 .logged, s .pre .0 .log-long)
+    omega (arith, oldest-low (a .k) (a .c) (a .t3) (a .p) (a .b) (o .oldest .result) (s .pre) (o .oldest .ensures), s .pre .valid .logged, s .pre .valid .log-long)
 
 -- src/lib.rt:401:1
 returns : tie.Need-returns
@@ -59,7 +59,11 @@ returns c =
     let s = o .before .before in
     let a = s .args in
     let j = o .oldest .result in
-    (rw (c .wide .ensures .0) (drain-shows (a .k) (a .c) (a .t3) (a .p) (a .b) j (s .pre .0) (s .pre .2) (o .oldest .ensures)), rw (c .wide .ensures .0) (drain-valid (a .k) (a .c) (a .t3) (a .p) (a .b) j (s .pre .0) (s .pre .2) (o .oldest .ensures)), refl)
+    record {
+      shows = rw (c .wide .ensures .0) (drain-shows (a .k) (a .c) (a .t3) (a .p) (a .b) j (s .pre) (o .oldest .ensures));
+      valid = rw (c .wide .ensures .0) (drain-valid (a .k) (a .c) (a .t3) (a .p) (a .b) j (s .pre) (o .oldest .ensures));
+      logged = refl;
+    }
 
 pub drain-spec : {M : Type 1} → statement M
 drain-spec =

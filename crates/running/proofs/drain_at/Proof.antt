@@ -20,7 +20,7 @@ element-copy-out-x : tie.Need-element-copy-out-x
 element-copy-out-x c =
     let s = c .before .before in
     let a = s .args in
-    omega (arith, oldest-low (a .k) (a .c) (a .t3) (a .p) (a .b) (c .oldest .result) (s .pre .0) (s .pre .2) (c .oldest .ensures), s .pre .0 .logged, s .pre .0 .log-long)
+    omega (arith, oldest-low (a .k) (a .c) (a .t3) (a .p) (a .b) (c .oldest .result) (s .pre) (c .oldest .ensures), s .pre .valid .logged, s .pre .valid .log-long)
 
 -- src/lib.rt:189:1
 returns : tie.Need-returns
@@ -28,7 +28,7 @@ returns c =
     let o = c .before in
     let s = o .before .before in
     let a = s .args in
-    oldest-here (a .k) (a .c) (a .t3) (a .p) (a .b) (o .oldest .result) (s .pre .0) (s .pre .2) (o .oldest .ensures)
+    oldest-here (a .k) (a .c) (a .t3) (a .p) (a .b) (o .oldest .result) (s .pre) (o .oldest .ensures)
 
 pub drain-at-spec : {M : Type 1} → statement M
 drain-at-spec = tie.close (tie.spec oldest-requires mul-x element-copy-out-x returns)

@@ -49,7 +49,7 @@ element-copy-out-t : tie.Need-element-copy-out-t
 element-copy-out-t c =
     let s = c .before .before in
     let a = s .args in
-    omega (arith, leb-false (countOf (a .t1) (a .p)) (getD (a .t3 .places) (a .p) 0) (can-run-cases (a .k) (a .t1) (shown (a .k) (a .t1) (a .t3)) (a .p) (s .pre .2) .inside), s .pre .0 .fit .counts (a .p), s .pre .1, c .wide .ensures .0)
+    omega (arith, leb-false (countOf (a .t1) (a .p)) (getD (a .t3 .places) (a .p) 0) (can-run-cases (a .k) (a .t1) (shown (a .k) (a .t1) (a .t3)) (a .p) (s .pre .free) .inside), s .pre .valid .fit .counts (a .p), s .pre .proc, c .wide .ensures .0)
 
 -- src/lib.rt:165:9
 kind-of-requires : tie.Need-kind-of-requires
@@ -85,11 +85,11 @@ returns c =
     let q = at-kind .kind-of .ensures .0 ∙ ap (λ (n : ℕ). kind (instrAt (a .t1) (a .p) n)) w in
     let x = at-or .or-zero .ensures ∙ ap orZero (at-first .first .ensures) ∙ ap (λ (n : ℕ). orZero (firstBy (a .t3 .values) (a .p) (instrAt (a .t1) (a .p) n))) w in
     let b = c .buffer-of .ensures ∙ ap (λ (n : ℕ). bufferBy (a .k) (n % 256)) x in
-    let fine = s .pre .0 .fit .fine (a .p) place (s .pre .1) (leb-false (countOf (a .t1) (a .p)) place (can-run-cases (a .k) (a .t1) (shown (a .k) (a .t1) (a .t3)) (a .p) (s .pre .2) .inside)) in
+    let fine = s .pre .valid .fit .fine (a .p) place (s .pre .proc) (leb-false (countOf (a .t1) (a .p)) place (can-run-cases (a .k) (a .t1) (shown (a .k) (a .t1) (a .t3)) (a .p) (s .pre .free) .inside)) in
     record {
       kind = q;
-      at = x ∙ address-is (a .k) (a .t1) (a .t3) (a .p) (s .pre .0) (s .pre .1) (s .pre .2) fine;
-      quiet = (λ j. not (reading (q j) || syncs (q j)) && not (writing (q j) && eqb (b j) 8)) ∙ quiet-is (a .k) (a .t1) (a .t3) (a .p) (s .pre .0) (s .pre .1) (s .pre .2) fine;
+      at = x ∙ address-is (a .k) (a .t1) (a .t3) (a .p) (s .pre) fine;
+      quiet = (λ j. not (reading (q j) || syncs (q j)) && not (writing (q j) && eqb (b j) 8)) ∙ quiet-is (a .k) (a .t1) (a .t3) (a .p) (s .pre) fine;
     }
 
 pub glance-spec : {M : Type 1} → statement M

@@ -55,7 +55,7 @@ loop-again c =
 
 -- src/lib.rt:415:1
 returns : tie.Need-returns Inv-loop μ-loop
-returns c = (c .before .loop .inv .1, λ n h. c .before .loop .inv .2 n (omega arith))
+returns c = record { long = c .before .loop .inv .1; all = λ n h. c .before .loop .inv .2 n (omega arith) }
 
 pub presets-spec : {M : Type 1} → statement M
 presets-spec =

@@ -36,15 +36,15 @@ element-copy-out-place : tie.Need-element-copy-out-place
 element-copy-out-place c =
     let s = c in
     let a = s .args in
-    let low = proc-low (a .k) (a .t1) (a .t3) (a .p) (s .pre .0) (s .pre .1) (s .pre .2) in
-    omega (arith, low, s .pre .0 .places-long)
+    let low = proc-low (a .k) (a .t1) (a .t3) (a .p) (s .pre) in
+    omega (arith, low, s .pre .valid .places-long)
 
 -- src/lib.rt:365:20
 mul-t : tie.Need-mul-t
 mul-t c =
     let s = c .before in
     let a = s .args in
-    let low = proc-low (a .k) (a .t1) (a .t3) (a .p) (s .pre .0) (s .pre .1) (s .pre .2) in
+    let low = proc-low (a .k) (a .t1) (a .t3) (a .p) (s .pre) in
     omega (arith, low)
 
 -- src/lib.rt:365:29
@@ -56,7 +56,7 @@ add-t : tie.Need-add-t
 add-t c =
     let s = c .before .before in
     let a = s .args in
-    let low = proc-low (a .k) (a .t1) (a .t3) (a .p) (s .pre .0) (s .pre .1) (s .pre .2) in
+    let low = proc-low (a .k) (a .t1) (a .t3) (a .p) (s .pre) in
     omega (arith, low, c .wide .ensures .1)
 
 -- src/lib.rt:365:13
@@ -64,7 +64,7 @@ mul-t-2 : tie.Need-mul-t-2
 mul-t-2 c =
     let s = c .before .before in
     let a = s .args in
-    let low = proc-low (a .k) (a .t1) (a .t3) (a .p) (s .pre .0) (s .pre .1) (s .pre .2) in
+    let low = proc-low (a .k) (a .t1) (a .t3) (a .p) (s .pre) in
     omega (arith, low, c .wide .ensures .1)
 
 -- src/lib.rt:365:13
@@ -72,8 +72,8 @@ element-copy-out-t : tie.Need-element-copy-out-t
 element-copy-out-t c =
     let s = c .before .before in
     let a = s .args in
-    let low = proc-low (a .k) (a .t1) (a .t3) (a .p) (s .pre .0) (s .pre .1) (s .pre .2) in
-    omega (arith, low, place-low (a .k) (a .t1) (a .t3) (a .p) (s .pre .0) (s .pre .1) (s .pre .2), s .pre .0 .fit .counts (a .p), c .wide .ensures .0, s .pre .0 .fit .code-long)
+    let low = proc-low (a .k) (a .t1) (a .t3) (a .p) (s .pre) in
+    omega (arith, low, place-low (a .k) (a .t1) (a .t3) (a .p) (s .pre), s .pre .valid .fit .counts (a .p), c .wide .ensures .0, s .pre .valid .fit .code-long)
 
 -- src/lib.rt:367:9
 kind-of-requires : tie.Need-kind-of-requires
@@ -84,8 +84,8 @@ first-requires : tie.Need-first-requires
 first-requires c κs =
     let s = c .before .before .before .before .before in
     let a = s .args in
-    let low = proc-low (a .k) (a .t1) (a .t3) (a .p) (s .pre .0) (s .pre .1) (s .pre .2) in
-    (low, s .pre .0 .values-long)
+    let low = proc-low (a .k) (a .t1) (a .t3) (a .p) (s .pre) in
+    (low, s .pre .valid .values-long)
 
 -- src/lib.rt:369:9
 or-zero-requires : tie.Need-or-zero-requires
@@ -96,8 +96,8 @@ second-requires : tie.Need-second-requires
 second-requires c κs =
     let s = c .before .before .before .before .before .before .before in
     let a = s .args in
-    let low = proc-low (a .k) (a .t1) (a .t3) (a .p) (s .pre .0) (s .pre .1) (s .pre .2) in
-    (low, s .pre .0 .values-long)
+    let low = proc-low (a .k) (a .t1) (a .t3) (a .p) (s .pre) in
+    (low, s .pre .valid .values-long)
 
 -- src/lib.rt:370:9
 or-zero-requires-2 : tie.Need-or-zero-requires-2
@@ -116,7 +116,7 @@ follow-requires : tie.Need-follow-requires
 follow-requires c κs =
     let s = c .before .before .before .before .before .before .before .before .before .before .before in
     let a = s .args in
-    place-small (a .k) (a .t1) (a .t3) (a .p) (s .pre .0) (s .pre .1) (s .pre .2)
+    place-small (a .k) (a .t1) (a .t3) (a .p) (s .pre)
 
 -- src/lib.rt:375:51
 cast-locked-by : tie.Need-cast-locked-by
@@ -127,31 +127,31 @@ locked-by-requires : tie.Need-locked-by-requires
 locked-by-requires c κs =
     let s = c .before .before .before .before .before .before .before .before .before .before .before .before .before in
     let a = s .args in
-    let low = proc-low (a .k) (a .t1) (a .t3) (a .p) (s .pre .0) (s .pre .1) (s .pre .2) in
-    (low, s .pre .0 .holders-long)
+    let low = proc-low (a .k) (a .t1) (a .t3) (a .p) (s .pre) in
+    (low, s .pre .valid .holders-long)
 
 -- src/lib.rt:376:9
 assign-requires : tie.Need-assign-requires
 assign-requires c κs =
     let s = c .before .before .before .before .before .before .before .before .before .before .before .before .before .before in
     let a = s .args in
-    let low = proc-low (a .k) (a .t1) (a .t3) (a .p) (s .pre .0) (s .pre .1) (s .pre .2) in
-    (low, s .pre .0 .values-long)
+    let low = proc-low (a .k) (a .t1) (a .t3) (a .p) (s .pre) in
+    (low, s .pre .valid .values-long)
 
 -- src/lib.rt:377:17
 written-requires : tie.Need-written-requires
 written-requires c κs =
     let s = c .before .before .before .before .before .before .before .before .before .before .before .before .before .before .before in
     let a = s .args in
-    let low = proc-low (a .k) (a .t1) (a .t3) (a .p) (s .pre .0) (s .pre .1) (s .pre .2) in
-    (low, s .pre .1, s .pre .0 .log-long, s .pre .0 .memory-long)
+    let low = proc-low (a .k) (a .t1) (a .t3) (a .p) (s .pre) in
+    (low, s .pre .room, s .pre .valid .log-long, s .pre .valid .memory-long)
 
 -- src/lib.rt:378:5
 element-write-n : tie.Need-element-write-n
 element-write-n c =
     let s = c .before .before .before .before .before .before .before .before .before .before .before .before .before .before .before .before in
     let a = s .args in
-    let low = proc-low (a .k) (a .t1) (a .t3) (a .p) (s .pre .0) (s .pre .1) (s .pre .2) in
+    let low = proc-low (a .k) (a .t1) (a .t3) (a .p) (s .pre) in
     omega (arith, low)
 
 -- src/lib.rt:360:1
@@ -178,12 +178,12 @@ returns c =
     let x : at-or .or-zero .result ≡ orZero (firstBy (m .values) (a .p) t) = at-or .or-zero .ensures ∙ ap orZero (at-first .first .ensures) in
     let y : at-or2 .or-zero2 .result ≡ orZero (secondBy (m .values) (a .p) t) = at-or2 .or-zero2 .ensures ∙ ap orZero (at-second .second .ensures) in
     let val = at-value .value-read .result in
-    let hv : reading (kind t) ≡ true → val ≡ seen (a .k) (shown (a .k) (a .t1) m) (a .p) (orZero (firstBy (m .values) (a .p) t)) = λ r. at-value .value-read .ensures (a .t1) (q ∙ eqb-true (kind t) 1 r) (omega (arith, x, read-near (a .k) (a .t1) m (a .p) (s .pre .0) (s .pre .1) (s .pre .2) t e r)) ∙ ap (seen (a .k) (shown (a .k) (a .t1) m) (a .p)) x in
+    let hv : reading (kind t) ≡ true → val ≡ seen (a .k) (shown (a .k) (a .t1) m) (a .p) (orZero (firstBy (m .values) (a .p) t)) = λ r. at-value .value-read .ensures (a .t1) (q ∙ eqb-true (kind t) 1 r) (omega (arith, x, read-near (a .k) (a .t1) m (a .p) (s .pre) t e r)) ∙ ap (seen (a .k) (shown (a .k) (a .t1) m) (a .p)) x in
     let wr : c .written .result ≡ writtenBy (a .k) m (kind t) (a .p) (orZero (firstBy (m .values) (a .p) t)) (orZero (secondBy (m .values) (a .p) t)) = c .written .ensures ∙ (λ j. writtenBy (a .k) m (q j) (a .p) (x j) (y j)) in
     let at : at-follow .follow .result ≡ followBy t place (orZero (firstBy (m .values) (a .p) t)) = at-follow .follow .ensures ∙ ap (λ (n : ℕ). followBy t place n) x in
     let lk : at-locked .locked-by .result ≡ lockedBy (kind t) (m .holders) (orZero (firstBy (m .values) (a .p) t)) (a .p) = at-locked .locked-by .ensures ∙ (λ j. lockedBy (q j) (m .holders) (x j) (a .p)) in
     let rg : at-assign .assign .result ≡ assignBy (m .values) (a .p) (assignedBy t) (resultBy val (orZero (firstBy (m .values) (a .p) t)) (orZero (secondBy (m .values) (a .p) t)) t) = at-assign .assign .ensures ∙ ap (assignBy (m .values) (a .p) (assignedBy t)) (at-result .result-by .ensures ∙ (λ j. resultBy val (x j) (y j) t)) in
-    ran-right (a .k) (a .t1) m (a .p) (s .pre .0) (s .pre .1) (s .pre .2) t e val hv _ (λ j. record { places = set (wr j .places) (a .p) (at j); values = rg j; holders = lk j; memory = wr j .memory; logged = wr j .logged; log = wr j .log })
+    ran-right (a .k) (a .t1) m (a .p) (s .pre) t e val hv _ (λ j. record { places = set (wr j .places) (a .p) (at j); values = rg j; holders = lk j; memory = wr j .memory; logged = wr j .logged; log = wr j .log })
 
 pub run-spec : {M : Type 1} → statement M
 run-spec =

@@ -33,7 +33,7 @@ returns c =
     let s = c .before .before .before .before .before .before in
     let w = c .before .before .before .before in
     let a = s .args in
-    let b : w .wide .result ≡ bufferBy (a .k) (a .l) = w .wide .ensures .0 ∙ w .before .buffer-of .ensures ∙ ap (bufferBy (a .k)) (omega (arith, s .pre .0)) in
+    let b : w .wide .result ≡ bufferBy (a .k) (a .l) = w .wide .ensures .0 ∙ w .before .buffer-of .ensures ∙ ap (bufferBy (a .k)) (omega (arith, s .pre .loc)) in
     λ k. seen-known (a .k) k (a .t2) (a .p) (a .l) (w .wide .result) (c .before .newest .result) b (c .before .before .before .if1 .taken) (c .before .newest .ensures) (c .if2 .taken)
 
 -- src/lib.rt:152:5
@@ -50,8 +50,8 @@ returns-2 c =
     let s = c .before .before .before .before in
     let w = c .before .before in
     let a = s .args in
-    let b : w .wide .result ≡ bufferBy (a .k) (a .l) = w .wide .ensures .0 ∙ w .before .buffer-of .ensures ∙ ap (bufferBy (a .k)) (omega (arith, s .pre .0)) in
-    λ k. mathlib.Core.Logic.⊎-elim (λ x. seen-unknown (a .k) k (a .t2) (a .p) (a .l) (w .wide .result) (x .2 .result) b (x .0 .taken) (x .2 .ensures) (x .3 .left)) (λ x. seen-direct (a .k) k (a .t2) (a .p) (a .l) (w .wide .result) b (s .pre .0) (x .left)) (c .before .if1 .came)
+    let b : w .wide .result ≡ bufferBy (a .k) (a .l) = w .wide .ensures .0 ∙ w .before .buffer-of .ensures ∙ ap (bufferBy (a .k)) (omega (arith, s .pre .loc)) in
+    λ k. mathlib.Core.Logic.⊎-elim (λ x. seen-unknown (a .k) k (a .t2) (a .p) (a .l) (w .wide .result) (x .2 .result) b (x .0 .taken) (x .2 .ensures) (x .3 .left)) (λ x. seen-direct (a .k) k (a .t2) (a .p) (a .l) (w .wide .result) b (s .pre .loc) (x .left)) (c .before .if1 .came)
 
 pub seen-spec : {M : Type 1} → statement M
 seen-spec =

@@ -17,7 +17,7 @@ returns c =
     let s = c .before .before in
     let a = s .args in
     let e = c .before .presets .ensures in
-    (begun-shows (a .k) (a .c) (c .before .presets .result) (s .pre) (e .0) (e .1), begun-valid (a .k) (a .c) (c .before .presets .result) (s .pre) (e .0) (e .1), refl)
+    record { shows = begun-shows (a .k) (a .c) (c .before .presets .result) (s .pre) e; valid = begun-valid (a .k) (a .c) (c .before .presets .result) (s .pre) e; logged = refl }
 
 pub start-spec : {M : Type 1} → statement M
 start-spec = tie.close (tie.spec presets-requires returns)

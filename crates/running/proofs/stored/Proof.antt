@@ -34,7 +34,7 @@ returns : tie.Need-returns
 returns c =
     let s = c .before .before in
     let a = s .args in
-    let l : a .l % 256 ≡ a .l = omega (arith, s .pre .1) in
+    let l : a .l % 256 ≡ a .l = omega (arith, s .pre .loc) in
     let b : c .before .buffer-of .result ≡ bufferBy (a .k) (a .l) = c .before .buffer-of .ensures ∙ ap (bufferBy (a .k)) l in
     sym (cond-true _ _ _ (eq-eqb (bufferBy (a .k) (a .l)) 8 (sym b ∙ c .if1 .taken)))
 
@@ -60,8 +60,8 @@ returns-2 c =
     let s = c .before .before in
     let a = s .args in
     let m = a .s in
-    let l : a .l % 256 ≡ a .l = omega (arith, s .pre .1) in
-    let p : a .p % 256 ≡ a .p = omega (arith, s .pre .0) in
+    let l : a .l % 256 ≡ a .l = omega (arith, s .pre .loc) in
+    let p : a .p % 256 ≡ a .p = omega (arith, s .pre .proc) in
     let b : c .before .buffer-of .result ≡ bufferBy (a .k) (a .l) = c .before .buffer-of .ensures ∙ ap (bufferBy (a .k)) l in
     (λ j. record { places = m .places; values = m .values; holders = m .holders; memory = m .memory; logged = m .logged + 1; log = set (m .log) (m .logged) (record { proc = p j; loc = l j; value = a .v; waits = true }) }) ∙ sym (cond-false _ _ _ (ne-eqb (bufferBy (a .k) (a .l)) 8 (λ q. c .if1 .left (b ∙ q))))
 

@@ -23,7 +23,7 @@ can-run-requires c κs = search needs
 glance-requires : tie.Need-glance-requires
 glance-requires c κs =
     let s = c .before .before in
-    (s .pre .0, s .pre .1, sym (c .before .can-run .ensures) ∙ c .if1 .taken)
+    record { valid = s .pre .valid; proc = s .pre .proc; free = sym (c .before .can-run .ensures) ∙ c .if1 .taken }
 
 -- src/lib.rt:183:9
 returns : tie.Need-returns

@@ -34,13 +34,13 @@ loop-holds c = (search needs, below-none _)
 
 -- src/lib.rt:84:35
 mul-has : tie.Need-mul-has Inv-loop μ-loop
-mul-has c = let s = c .before .before .before .before in omega (arith, s .pre .0)
+mul-has c = let s = c .before .before .before .before in omega (arith, s .pre .proc)
 
 -- src/lib.rt:84:35
 add-has : tie.Need-add-has Inv-loop μ-loop
 add-has c =
     let s = c .before .before .before .before in
-    omega (arith, s .pre .0, s .pre .1, c .before .before .wide .ensures .0, c .loop-test .taken)
+    omega (arith, s .pre .proc, s .pre .few-locs, c .before .before .wide .ensures .0, c .loop-test .taken)
 
 -- src/lib.rt:84:13
 has-requires : tie.Need-has-requires Inv-loop μ-loop
@@ -68,7 +68,7 @@ returns c =
     let s = w .before in
     let a = s .args in
     let q : c .before .loop .b ≡ a .locs = omega (arith, c .before .before .wide .ensures .0) in
-    subst (λ (n : ℕ). c .before .loop .found ≡ someBelow n (λ i. has (w .waiting .result) (8 * a .p + i))) q (c .before .loop .inv .1) ∙ below-same (a .locs) _ _ (λ b l. w .waiting .ensures .holds (a .p) b (s .pre .0) (omega (arith, s .pre .1)))
+    subst (λ (n : ℕ). c .before .loop .found ≡ someBelow n (λ i. has (w .waiting .result) (8 * a .p + i))) q (c .before .loop .inv .1) ∙ below-same (a .locs) _ _ (λ b l. w .waiting .ensures .holds (a .p) b (s .pre .proc) (omega (arith, s .pre .few-locs)))
 
 pub holding-spec : {M : Type 1} → statement M
 holding-spec =

@@ -17,7 +17,7 @@ abbrev μ-loop : tie.MeasureT-loop
 μ-loop c m causes₀ p₀ causes p = 4 - p
 
 loop-holds : tie.Need-loop-holds Inv-loop μ-loop
-loop-holds c = (search needs, c .before .pre .1, λ j l. absurd (omega arith))
+loop-holds c = (search needs, c .before .pre .long, λ j l. absurd (omega arith))
 
 reason-byte-requires : tie.Need-reason-byte-requires Inv-loop μ-loop
 reason-byte-requires c κs = search needs

@@ -37,7 +37,10 @@ walk-requires c κs =
     let read = refusal .before in
     let a = read .before .before .before .before .args in
     let z = sym (else .before .if1 .left) ∙ code-is waits (a .block .now) (a .schedule .now) (length (a .causes .now)) _ (read .read-case .result) (read .read-case .ensures) (refusal .refusal .ensures) in
-    (subst Fit (sym (read-as (a .block .now) (read .read-case .ensures) (own-none waits (a .block .now) (a .schedule .now) (length (a .causes .now)) z))) (case-fit waits (a .block .now) (a .schedule .now) (length (a .causes .now)) z), in-fours waits (a .block .now) (a .schedule .now) (length (a .causes .now)) z)
+    record {
+      fit = subst Fit (sym (read-as (a .block .now) (read .read-case .ensures) (own-none waits (a .block .now) (a .schedule .now) (length (a .causes .now)) z))) (case-fit waits (a .block .now) (a .schedule .now) (length (a .causes .now)) z);
+      whole = in-fours waits (a .block .now) (a .schedule .now) (length (a .causes .now)) z;
+    }
 
 show-requires : tie.Need-show-requires
 show-requires c κs =
@@ -47,7 +50,7 @@ show-requires c κs =
     let read = refusal .before in
     let a = read .before .before .before .before .args in
     let z = sym (else .if1 .left) ∙ code-is waits (a .block .now) (a .schedule .now) (length (a .causes .now)) _ (read .read-case .result) (read .read-case .ensures) (refusal .refusal .ensures) in
-    (walk .walk .ensures .valid, right-size waits (a .block .now) (a .schedule .now) (length (a .causes .now)) z)
+    record { valid = walk .walk .ensures .valid; long = right-size waits (a .block .now) (a .schedule .now) (length (a .causes .now)) z }
 
 same-length-2 : tie.Need-same-length-2
 same-length-2 c = search needs

@@ -27,7 +27,7 @@ weighed-requires : tie.Need-weighed-requires Inv-loop μ-loop
 weighed-requires c κs = search needs
 
 add-sum : tie.Need-add-sum Inv-loop μ-loop
-add-sum c = omega (arith, c .weighed .ensures .1)
+add-sum c = omega (arith, c .weighed .ensures .low)
 
 add-i : tie.Need-add-i Inv-loop μ-loop
 add-i c = search needs
@@ -39,13 +39,13 @@ loop-again : tie.Need-loop-again Inv-loop μ-loop
 loop-again c =
     let at = c .before .before .before in
     let s = at .before .before .args .block .now in
-    (search needs, weighted-more s (at .loop .i) (at .loop .sum) (c .weighed .result) (at .loop .inv .1) (cc), omega (arith, c .weighed .ensures .1))
+    (search needs, weighted-more s (at .loop .i) (at .loop .sum) (c .weighed .result) (at .loop .inv .1) (cc), omega (arith, c .weighed .ensures .low))
 
 returns : tie.Need-returns Inv-loop μ-loop
 returns c =
     let at = c .before in
     let q : at .loop .i ≡ 510 = omega arith in
-    (ap (λ (n : ℕ). n % 65521) (at .loop .inv .1 ∙ ap (weighted (at .before .before .args .block .now)) q), search needs)
+    record { is = ap (λ (n : ℕ). n % 65521) (at .loop .inv .1 ∙ ap (weighted (at .before .before .args .block .now)) q); low = search needs }
 
 pub check-spec : {M : Type 1} → statement M
 check-spec =

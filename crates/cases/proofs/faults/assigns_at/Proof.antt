@@ -40,7 +40,7 @@ returns c =
     let u = n .before in
     let a = u .before .before .args in
     ap (λ (b : Bool). b && eqb (f .field .result) 1 && eqb (c .number2 .result) (a .r)) (u .used .ensures)
-    ∙ assigns-is (a .block .now) (a .p) (a .n) (a .r) (f .field .result) (n .number .result) (c .number2 .result) (f .field .ensures) (n .number .ensures .0) (c .number2 .ensures .0)
+    ∙ assigns-is (a .block .now) (a .p) (a .n) (a .r) (f .field .result) (n .number .result) (c .number2 .result) (f .field .ensures) (n .number .ensures .is) (c .number2 .ensures .is)
 
 pub assigns-at-spec : {M : Type 1} → statement M
 assigns-at-spec =

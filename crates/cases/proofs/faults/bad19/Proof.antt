@@ -58,8 +58,8 @@ returns c =
     let p₂ = p₃ .before in
     let p₁ = p₂ .before in
     let a = p₁ .before .before .args in
-    let tested = tests (a .block .now) (a .i) (w .within .result) (u .used .result) (r .reads-at .result) (p₁ .past .result) (p₂ .past2 .result) (p₃ .past3 .result) (p₄ .past4 .result) (n .number .result) (p₁ .past .ensures) (p₂ .past2 .ensures) (p₃ .past3 .ensures) (p₄ .past4 .ensures) (n .number .ensures .0) (w .within .ensures) (u .used .ensures) (r .reads-at .ensures) in
-    ap not (c .is-set .ensures ∙ (λ t. isSet (a .block .now) (p₁ .past .ensures t / 72) (v .number2 .ensures .0 t))) ∙ read-unset (a .block .now) (a .i) (sym tested ∙ at .if1 .taken)
+    let tested = tests (a .block .now) (a .i) (w .within .result) (u .used .result) (r .reads-at .result) (p₁ .past .result) (p₂ .past2 .result) (p₃ .past3 .result) (p₄ .past4 .result) (n .number .result) (p₁ .past .ensures) (p₂ .past2 .ensures) (p₃ .past3 .ensures) (p₄ .past4 .ensures) (n .number .ensures .is) (w .within .ensures) (u .used .ensures) (r .reads-at .ensures) in
+    ap not (c .is-set .ensures ∙ (λ t. isSet (a .block .now) (p₁ .past .ensures t / 72) (v .number2 .ensures .is t))) ∙ read-unset (a .block .now) (a .i) (sym tested ∙ at .if1 .taken)
 
 returns-2 : tie.Need-returns-2
 returns-2 c =
@@ -72,7 +72,7 @@ returns-2 c =
     let p₂ = p₃ .before in
     let p₁ = p₂ .before in
     let a = p₁ .before .before .args in
-    let tested = tests (a .block .now) (a .i) (w .within .result) (u .used .result) (r .reads-at .result) (p₁ .past .result) (p₂ .past2 .result) (p₃ .past3 .result) (p₄ .past4 .result) (n .number .result) (p₁ .past .ensures) (p₂ .past2 .ensures) (p₃ .past3 .ensures) (p₄ .past4 .ensures) (n .number .ensures .0) (w .within .ensures) (u .used .ensures) (r .reads-at .ensures) in
+    let tested = tests (a .block .now) (a .i) (w .within .result) (u .used .result) (r .reads-at .result) (p₁ .past .result) (p₂ .past2 .result) (p₃ .past3 .result) (p₄ .past4 .result) (n .number .result) (p₁ .past .ensures) (p₂ .past2 .ensures) (p₃ .past3 .ensures) (p₄ .past4 .ensures) (n .number .ensures .is) (w .within .ensures) (u .used .ensures) (r .reads-at .ensures) in
     not-reading (a .block .now) (a .i) (sym tested ∙ c .if1 .left)
 
 pub bad19-spec : {M : Type 1} → statement M

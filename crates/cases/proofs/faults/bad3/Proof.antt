@@ -20,7 +20,7 @@ unfolding bad3
 returns c =
     let n₂ = c .before in
     let n₁ = n₂ .before in
-    rw (c .marked .ensures, n₂ .number3 .ensures .0, n₁ .number2 .ensures .0, n₁ .before .number .ensures .0)
+    rw (c .marked .ensures, n₂ .number3 .ensures .is, n₁ .number2 .ensures .is, n₁ .before .number .ensures .is)
 
 pub bad3-spec : {M : Type 1} → statement M
 bad3-spec =

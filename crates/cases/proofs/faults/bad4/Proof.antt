@@ -23,7 +23,7 @@ unfolding bad4
 returns c =
     let p = c .before .before in
     let n = p .before in
-    rw (c .marked .ensures, c .before .no-proc .ensures, p .past .ensures, n .number .ensures .0, n .before .within .ensures)
+    rw (c .marked .ensures, c .before .no-proc .ensures, p .past .ensures, n .number .ensures .is, n .before .within .ensures)
 
 pub bad4-spec : {M : Type 1} → statement M
 bad4-spec =

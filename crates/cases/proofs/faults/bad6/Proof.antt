@@ -43,7 +43,7 @@ returns c =
     let n₁ = w .before in
     let p₃ = n₁ .before in
     let p₂ = p₃ .before in
-    rw (c .bad-byte .ensures, n₂ .number2 .ensures .0, u .used .ensures, p₄ .past4 .ensures, w .within .ensures, n₁ .number .ensures .0, p₃ .past3 .ensures, p₂ .past2 .ensures, p₂ .before .past .ensures)
+    rw (c .bad-byte .ensures, n₂ .number2 .ensures .is, u .used .ensures, p₄ .past4 .ensures, w .within .ensures, n₁ .number .ensures .is, p₃ .past3 .ensures, p₂ .past2 .ensures, p₂ .before .past .ensures)
 
 pub bad6-spec : {M : Type 1} → statement M
 bad6-spec =

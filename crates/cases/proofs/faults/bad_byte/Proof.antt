@@ -32,7 +32,7 @@ returns-2 c =
     let f = n .before in
     let at = f .before in
     let a = at .before .before .before .args in
-    rw (c .bad-field .ensures, w .word .ensures .0, n .number .ensures .0, f .field .ensures, at .before .past .ensures) (field-byte (a .block .now) (a .op) (a .n) (a .i) (λ h. absurd (omega (arith, at .if1 .left, at .before .past .ensures))))
+    rw (c .bad-field .ensures, w .word .ensures .is, n .number .ensures .is, f .field .ensures, at .before .past .ensures) (field-byte (a .block .now) (a .op) (a .n) (a .i) (λ h. absurd (omega (arith, at .if1 .left, at .before .past .ensures))))
 
 pub bad-byte-spec : {M : Type 1} → statement M
 bad-byte-spec =

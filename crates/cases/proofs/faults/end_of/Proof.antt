@@ -14,21 +14,21 @@ at-code : (code n to : ℕ) → code ≡ n → ((s : List ℕ) (k : ℕ) → to 
 at-code code n to e h s k b l = subst (λ (m : ℕ). bad s m k ≡ false) (sym e) (h s k b)
 
 returns : tie.Need-returns
-returns c = (search needs, at-code (c .before .args .code) 3 4 (c .match .keys1) after-3)
+returns c = record { within = search needs; none-behind = at-code (c .before .args .code) 3 4 (c .match .keys1) after-3 }
 
 returns-2 : tie.Need-returns-2
-returns-2 c = (search needs, at-code (c .before .args .code) 4 8 (c .match .keys2) after-4)
+returns-2 c = record { within = search needs; none-behind = at-code (c .before .args .code) 4 8 (c .match .keys2) after-4 }
 
 returns-3 : tie.Need-returns-3
-returns-3 c = (search needs, at-code (c .before .args .code) 5 92 (c .match .keys3) after-5)
+returns-3 c = record { within = search needs; none-behind = at-code (c .before .args .code) 5 92 (c .match .keys3) after-5 }
 
 returns-4 : tie.Need-returns-4
-returns-4 c = (search needs, λ s k h b. absurd (omega arith))
+returns-4 c = record { within = search needs; none-behind = λ s k h b. absurd (omega arith) }
 
 returns-5 : tie.Need-returns-5
 returns-5 c =
     let no = c .match .rest in
-    (search needs, λ s k h b. after-rest s k (c .before .args .code) (c .before .pre) (no .0 .0 .0 .1) (no .0 .0 .1) (no .0 .1) (no .1) h)
+    record { within = search needs; none-behind = λ s k h b. after-rest s k (c .before .args .code) (c .before .pre) (no .0 .0 .0 .1) (no .0 .0 .1) (no .0 .1) (no .1) h }
 
 pub end-of-spec : {M : Type 1} → statement M
 end-of-spec = tie.close (tie.spec returns returns-2 returns-3 returns-4 returns-5)

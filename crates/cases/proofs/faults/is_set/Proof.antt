@@ -25,7 +25,7 @@ has-requires c κs = search needs
 loop-holds : tie.Need-loop-holds Inv-loop μ-loop
 loop-holds c =
     let a = c .before .before .before .args in
-    (search needs, set-none (a .block .now) (a .p) (a .r) (c .has .result) (c .has .ensures ∙ ap (λ (m : ℕ). has m (a .r)) (c .before .number .ensures .0)))
+    (search needs, set-none (a .block .now) (a .p) (a .r) (c .has .result) (c .has .ensures ∙ ap (λ (m : ℕ). has m (a .r)) (c .before .number .ensures .is)))
 
 assigns-at-requires : tie.Need-assigns-at-requires Inv-loop μ-loop
 assigns-at-requires c κs = search needs

@@ -24,7 +24,7 @@ start-of-requires : tie.Need-start-of-requires Inv-loop μ-loop
 start-of-requires c κs = search needs
 
 loop-holds : tie.Need-loop-holds Inv-loop μ-loop
-loop-holds c = (c .start-of .ensures .0, c .start-of .ensures .1 (c .before .before .before .args .block .now))
+loop-holds c = (c .start-of .ensures .within, c .start-of .ensures .none-before (c .before .before .before .args .block .now))
 
 bad-requires : tie.Need-bad-requires Inv-loop μ-loop
 bad-requires c κs = search needs
@@ -49,7 +49,7 @@ returns-2 c =
     let at = c .before in
     let end = at .before .before in
     let a = end .before .before .args in
-    none-lowest 510 (bad (a .block .now) (a .code)) (λ k h. elim (decLt k (at .loop .i)) [ yes b ↦ at .loop .inv .1 k b | no g ↦ end .end-of .ensures .1 (a .block .now) k (omega arith) h ])
+    none-lowest 510 (bad (a .block .now) (a .code)) (λ k h. elim (decLt k (at .loop .i)) [ yes b ↦ at .loop .inv .1 k b | no g ↦ end .end-of .ensures .none-behind (a .block .now) k (omega arith) h ])
 
 pub lowest-spec : {M : Type 1} → statement M
 lowest-spec =

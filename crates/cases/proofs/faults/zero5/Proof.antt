@@ -55,7 +55,7 @@ returns c =
     let h = w₁ .before in
     let p₂ = h .before in
     let m = p₂ .before in
-    rw (c .no-loc .ensures, p₄ .past4 .ensures, w₃ .within3 .ensures, n₂ .no-proc2 .ensures, w₂ .within2 .ensures, n₁ .no-proc .ensures, p₃ .past3 .ensures, w₁ .within .ensures, h .has .ensures, p₂ .past2 .ensures, m .number .ensures .0, m .before .past .ensures)
+    rw (c .no-loc .ensures, p₄ .past4 .ensures, w₃ .within3 .ensures, n₂ .no-proc2 .ensures, w₂ .within2 .ensures, n₁ .no-proc .ensures, p₃ .past3 .ensures, w₁ .within .ensures, h .has .ensures, p₂ .past2 .ensures, m .number .ensures .is, m .before .past .ensures)
 
 pub zero5-spec : {M : Type 1} → statement M
 zero5-spec =

@@ -39,7 +39,7 @@ returns c =
     let m = b₀ .before .before in
     let p = m .before .before .before in
     let s = p .before .before .before .args .block .now in
-    case-is s (b₀ .byte .result) (b₁ .byte2 .result) (r₀ .read-four .result) (r₁ .read-four2 .result) _ _ (c .read-code .result) (b₀ .byte .ensures) (b₁ .byte2 .ensures) (r₀ .read-four .ensures) (r₁ .read-four2 .ensures) (p .read-words .ensures) (m .read-words2 .ensures) (c .read-code .ensures)
+    case-is s (b₀ .byte .result) (b₁ .byte2 .result) (r₀ .read-four .result) (r₁ .read-four2 .result) _ _ (c .read-code .result) (b₀ .byte .ensures .is) (b₁ .byte2 .ensures .is) (r₀ .read-four .ensures) (r₁ .read-four2 .ensures) (p .read-words .ensures) (m .read-words2 .ensures) (c .read-code .ensures)
 
 pub case-of-spec : {M : Type 1} → statement M
 case-of-spec =

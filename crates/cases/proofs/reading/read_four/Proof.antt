@@ -33,7 +33,7 @@ returns c =
     let b₂ = b₃ .before in
     let b₁ = b₂ .before in
     let a = b₁ .before .before .args in
-    λ t. (b₁ .byte .ensures ∙ ap (byte (a .block .now)) (sym (add-zero (a .at)))) t ∷ b₂ .byte2 .ensures t ∷ b₃ .byte3 .ensures t ∷ c .byte4 .ensures t ∷ []
+    λ t. (b₁ .byte .ensures .is ∙ ap (byte (a .block .now)) (sym (add-zero (a .at)))) t ∷ b₂ .byte2 .ensures .is t ∷ b₃ .byte3 .ensures .is t ∷ c .byte4 .ensures .is t ∷ []
 
 pub read-four-spec : {M : Type 1} → statement M
 read-four-spec =

@@ -29,7 +29,7 @@ word-requires : tie.Need-word-requires Inv-loop μ-loop
 word-requires c κs = search needs
 
 cast-words : tie.Need-cast-words Inv-loop μ-loop
-cast-words c = omega (arith, c .word .ensures .1)
+cast-words c = omega (arith, c .word .ensures .low)
 
 mul-words : tie.Need-mul-words Inv-loop μ-loop
 mul-words c = search needs
@@ -50,7 +50,7 @@ loop-again c =
     let words = at .loop .words in (
       simp length-set (omega arith),
       simp length-set (at .loop .inv .1),
-      filled-more (λ (k : ℕ). word (a .block .now) (a .at + 2 * k)) 0 words (at .loop .n) (c .word .result) (c .before .loop-test .taken) (c .word .ensures .0) (at .loop .inv .2),
+      filled-more (λ (k : ℕ). word (a .block .now) (a .at + 2 * k)) 0 words (at .loop .n) (c .word .result) (c .before .loop-test .taken) (c .word .ensures .is) (at .loop .inv .2),
     )
 
 same-length : tie.Need-same-length Inv-loop μ-loop

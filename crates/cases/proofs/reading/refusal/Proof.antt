@@ -17,7 +17,7 @@ check-requires c κs = search needs
 returns-2 : tie.Need-returns-2
 returns-2 c =
     let at = c .before .before .before in
-    not-check (at .before .before .args .block .now) (at .if1 .left) (λ h. c .if2 .taken (c .before .before .word .ensures .0 ∙ h ∙ sym (c .before .check .ensures .0)))
+    not-check (at .before .before .args .block .now) (at .if1 .left) (λ h. c .if2 .taken (c .before .before .word .ensures .is ∙ h ∙ sym (c .before .check .ensures .is)))
 
 judge-requires : tie.Need-judge-requires
 judge-requires c κs = search needs
@@ -26,7 +26,7 @@ returns-3 : tie.Need-returns-3
 returns-3 c =
     let at = c .before .before .before .before in
     let s = at .before .before .args .block .now in
-    c .judge .ensures ∙ ap (faultOf s) (past-check s (at .if1 .left) (sym (c .before .before .before .word .ensures .0) ∙ c .before .if2 .left ∙ c .before .before .check .ensures .0))
+    c .judge .ensures ∙ ap (faultOf s) (past-check s (at .if1 .left) (sym (c .before .before .before .word .ensures .is) ∙ c .before .if2 .left ∙ c .before .before .check .ensures .is))
 
 pub refusal-spec : {M : Type 1} → statement M
 refusal-spec =

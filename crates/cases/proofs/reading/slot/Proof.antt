@@ -50,7 +50,7 @@ returns c =
     let b₀ = b₁ .before in
     let w = b₀ .before in
     let a = w .before .before .args in
-    slot-is (a .block .now) (a .n) (b₀ .byte .result) (b₁ .byte2 .result) (b₂ .byte3 .result) (b₃ .byte4 .result) (w .word .result) (c .instr-of .result) (b₀ .byte .ensures) (b₁ .byte2 .ensures) (b₂ .byte3 .ensures) (b₃ .byte4 .ensures) (w .word .ensures .0) (c .instr-of .ensures)
+    slot-is (a .block .now) (a .n) (b₀ .byte .result) (b₁ .byte2 .result) (b₂ .byte3 .result) (b₃ .byte4 .result) (w .word .result) (c .instr-of .result) (b₀ .byte .ensures .is) (b₁ .byte2 .ensures .is) (b₂ .byte3 .ensures .is) (b₃ .byte4 .ensures .is) (w .word .ensures .is) (c .instr-of .ensures)
 
 pub slot-spec : {M : Type 1} → statement M
 slot-spec =

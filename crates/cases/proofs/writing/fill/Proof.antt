@@ -2,14 +2,22 @@
 use mathlib.Core.Path.{_≡_, _∙_}
 use native.Mathlib.Omega.{arith}
 use lib.ListN.{length}
+use Rattle.cases.specs.declared.Case.{Case}
 use Rattle.cases.proofs.Puts.{long-of, filled}
 use borrow.Author.Needs.{needs}
 use Rattle.cases.proofs.writing.fill.Statement.{statement}
 use Rattle.cases.proofs.writing.fill.Tie as tie
 
 -- the lengths that the type of a case has
-sized : (s : tie.Start) → (length (s .args .case .counts) ≡ 4) × (length (s .args .case .masks) ≡ 4) × (length (s .args .case .presets) ≡ 32) × (length (s .args .case .memory) ≡ 8) × (length (s .args .case .code) ≡ 48)
-sized s = (search (long-of, needs), search (long-of, needs), search (long-of, needs), search (long-of, needs), search (long-of, needs))
+record Sized (x : Case) : Type 0 where
+  counts : length (x .counts) ≡ 4
+  masks : length (x .masks) ≡ 4
+  presets : length (x .presets) ≡ 32
+  memory : length (x .memory) ≡ 8
+  code : length (x .code) ≡ 48
+
+sized : (s : tie.Start) → Sized (s .args .case)
+sized s = record { counts = search (long-of, needs); masks = search (long-of, needs); presets = search (long-of, needs); memory = search (long-of, needs); code = search (long-of, needs) }
 
 put-head-requires : tie.Need-put-head-requires
 put-head-requires c κs = search needs
@@ -21,8 +29,8 @@ put-words-requires : tie.Need-put-words-requires
 put-words-requires c κs =
     let p₃ = c .before .before .before .before .before in
     let start = p₃ .before .before .before in
-    let h = sized start .2 in
-    omega (arith, p₃ .put-head .ensures .long, start .pre)
+    let h = sized start .presets in
+    record { room = omega (arith, p₃ .put-head .ensures .long, start .pre); long = omega (arith, p₃ .put-head .ensures .long, start .pre) }
 
 slice-aggregate-put-words-2 : tie.Need-slice-aggregate-put-words-2
 slice-aggregate-put-words-2 c = search needs
@@ -32,8 +40,9 @@ put-words-requires-2 c κs =
     let p₄ = c .before .before .before .before .before in
     let p₃ = p₄ .before .before .before .before .before .before in
     let start = p₃ .before .before .before in
-    let h = sized start .3 in
-    omega (arith, p₃ .put-head .ensures .long, p₄ .put-words .ensures .long, start .pre)
+    let h = sized start .memory in
+    let long : length (p₄ .put-words .last .0) ≡ 512 = omega (arith, p₃ .put-head .ensures .long, p₄ .put-words .ensures .long, start .pre) in
+    record { room = omega arith; long = long }
 
 put-code-requires : tie.Need-put-code-requires
 put-code-requires c κs = search needs
@@ -53,10 +62,10 @@ returns c =
     let p₃ = p₄ .before .before .before .before .before .before in
     let start = p₃ .before .before .before in
     let l = sized start in
-    let long : length (p₆ .put-code .last .0) ≡ 512 = omega (arith, p₃ .put-head .ensures .long, p₄ .put-words .ensures .long, p₅ .put-words2 .ensures .long, p₆ .put-code .ensures .long, start .pre) in (
-      filled (start .args .case) (l .0) (l .1) (l .2) (l .3) (l .4) (start .args .block .now) (p₃ .put-head .last .1 .0) (p₄ .put-words .last .0) (p₅ .put-words2 .last .0) (p₆ .put-code .last .0) (z .clear .last .0) long (p₃ .put-head .ensures) (p₄ .put-words .ensures) (p₅ .put-words2 .ensures) (p₆ .put-code .ensures) (z .clear .ensures),
-      z .clear .kept .0 ∙ long,
-    )
+    let long : length (p₆ .put-code .last .0) ≡ 512 = omega (arith, p₃ .put-head .ensures .long, p₄ .put-words .ensures .long, p₅ .put-words2 .ensures .long, p₆ .put-code .ensures .long, start .pre) in record {
+      holds = filled (start .args .case) (l .counts) (l .masks) (l .presets) (l .memory) (l .code) (start .args .block .now) (p₃ .put-head .last .1 .0) (p₄ .put-words .last .0) (p₅ .put-words2 .last .0) (p₆ .put-code .last .0) (z .clear .last .0) long (p₃ .put-head .ensures) (p₄ .put-words .ensures) (p₅ .put-words2 .ensures) (p₆ .put-code .ensures) (z .clear .ensures);
+      long = z .clear .kept .0 ∙ long;
+    }
 
 pub fill-spec : {M : Type 1} → statement M
 fill-spec =

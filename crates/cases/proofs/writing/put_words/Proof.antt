@@ -42,7 +42,7 @@ slice-aggregate-put c = search needs
 put-requires : tie.Need-put-requires Inv-loop μ-loop
 put-requires c κs =
     let t = c .before .before in
-    omega (arith, ap length (t .two .ensures), t .before .before .before .loop .inv .1, t .before .before .before .before .before .before .pre .0)
+    omega (arith, ap length (t .two .ensures), t .before .before .before .loop .inv .1, t .before .before .before .before .before .before .pre .room)
 
 add-i : tie.Need-add-i Inv-loop μ-loop
 add-i c = search needs

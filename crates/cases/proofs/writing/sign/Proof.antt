@@ -40,7 +40,7 @@ returns c =
     let t = put .before .before .before in
     let k = t .before in
     let start = k .before .before .before in
-    signed (unbounded (start .args .block .now)) (put .put .last .0) (t .two .result) (k .check .result) (length-set (start .args .block .now) 2 0 ∙ start .pre) (k .check .ensures .0) (t .two .ensures) (put .put .ensures)
+    signed (unbounded (start .args .block .now)) (put .put .last .0) (t .two .result) (k .check .result) (length-set (start .args .block .now) 2 0 ∙ start .pre) (k .check .ensures .is) (t .two .ensures) (put .put .ensures)
 
 pub sign-spec : {M : Type 1} → statement M
 sign-spec =

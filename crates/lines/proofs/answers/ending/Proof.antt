@@ -37,12 +37,12 @@ returns c =
     let position = feed .before .before .before .before .before in
     let letters = position .before .before .before .before in
     let test = letters .before .before .before in
-    let entry = test .before .before .before in (
-      laid-as
+    let entry = test .before .before .before in record {
+      laid = laid-as
           (sym (cond-true (ofBlock (entry .args .code)) _ _ (sym (test .before .of-block .ensures) ∙ test .if1 .taken)))
-          (laid-then (letters .word .ensures) (laid-then (position .decimal .ensures) (feed .word2 .ensures))),
-      ending-short (entry .args .code) (entry .args .position) (omega (arith, entry .fits .position)),
-    )
+          (laid-then (letters .word .ensures) (laid-then (position .decimal .ensures) (feed .word2 .ensures)));
+      short = ending-short (entry .args .code) (entry .args .position) (omega (arith, entry .fits .position));
+    }
 
 slice-aggregate-word-3 : tie.Need-slice-aggregate-word-3
 slice-aggregate-word-3 c = search needs
@@ -57,10 +57,10 @@ returns-2 : tie.Need-returns-2
 unfolding ending
 returns-2 c =
     let test = c .before .before .before .before .before in
-    let entry = test .before .before .before in (
-      laid-as (sym (cond-false (ofBlock (entry .args .code)) _ _ (sym (test .before .of-block .ensures) ∙ test .if1 .left))) (c .before .before .word3 .ensures),
-      ending-short (entry .args .code) (entry .args .position) (omega (arith, entry .fits .position)),
-    )
+    let entry = test .before .before .before in record {
+      laid = laid-as (sym (cond-false (ofBlock (entry .args .code)) _ _ (sym (test .before .of-block .ensures) ∙ test .if1 .left))) (c .before .before .word3 .ensures);
+      short = ending-short (entry .args .code) (entry .args .position) (omega (arith, entry .fits .position));
+    }
 
 pub ending-spec : {M : Type 1} → statement M
 ending-spec =

@@ -33,7 +33,10 @@ returns c =
     let count = test .before .before .before in
     let start = count .before .before .before .before in
     let args = start .before .before .before .before .args in
-    (rw (test .if1 .taken) (laid-then (start .word .ensures) (laid-then (count .decimal .ensures) (mark .word2 .ensures))), header-short (args .count) (args .cut) (omega arith))
+    record {
+      laid = rw (test .if1 .taken) (laid-then (start .word .ensures) (laid-then (count .decimal .ensures) (mark .word2 .ensures)));
+      short = header-short (args .count) (args .cut) (omega arith);
+    }
 
 slice-aggregate-word-3 : tie.Need-slice-aggregate-word-3
 slice-aggregate-word-3 c = search needs
@@ -52,7 +55,10 @@ returns-2 c =
     let count = test .before .before .before in
     let start = count .before .before .before .before in
     let args = start .before .before .before .before .args in
-    (rw (test .if1 .left) (laid-then (start .word .ensures) (laid-then (count .decimal .ensures) (mark .word3 .ensures))), header-short (args .count) (args .cut) (omega arith))
+    record {
+      laid = rw (test .if1 .left) (laid-then (start .word .ensures) (laid-then (count .decimal .ensures) (mark .word3 .ensures)));
+      short = header-short (args .count) (args .cut) (omega arith);
+    }
 
 pub header-spec : {M : Type 1} → statement M
 header-spec =

@@ -29,8 +29,8 @@ returns c =
     let code = last .before .before .before .before in
     let start = code .before .before .before .before in
     let entry = start .before .before .before .before in (
-      laid-then (start .word .ensures) (laid-then (code .decimal .ensures) (last .ending .ensures .0)),
-      refusal-short (entry .args .code) (entry .args .position) (omega (arith, entry .fits .code)) (last .ending .ensures .1),
+      laid-then (start .word .ensures) (laid-then (code .decimal .ensures) (last .ending .ensures .laid)),
+      refusal-short (entry .args .code) (entry .args .position) (omega (arith, entry .fits .code)) (last .ending .ensures .short),
     )
 
 pub refusal-spec : {M : Type 1} → statement M

@@ -51,8 +51,8 @@ returns c =
           (start .word .ensures)
           (laid-then
           (code .decimal .ensures)
-          (laid-then (after .word2 .ensures) (laid-then (steps .decimal2 .ensures) (laid-then (unit .word3 .ensures) (last .ending .ensures .0))))),
-      replay-short (entry .args .code) (entry .args .steps) (entry .args .position) (omega (arith, entry .fits .code)) (omega (arith, entry .fits .steps)) (last .ending .ensures .1),
+          (laid-then (after .word2 .ensures) (laid-then (steps .decimal2 .ensures) (laid-then (unit .word3 .ensures) (last .ending .ensures .laid))))),
+      replay-short (entry .args .code) (entry .args .steps) (entry .args .position) (omega (arith, entry .fits .code)) (omega (arith, entry .fits .steps)) (last .ending .ensures .short),
     )
 
 pub replay-spec : {M : Type 1} → statement M

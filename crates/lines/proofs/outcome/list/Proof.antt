@@ -34,8 +34,8 @@ returns c =
     let text = concatMap (outcomeLine (args .procs)) (recordsIn n records) in
     let count : n ≡ length (recordsIn n records) = sym (records-length n records) in
     let said = ap (λ (k : ℕ). headerLine k (args .cut) ++ text) count in (
-      laid-as said (laid-then (first .header .ensures .0) (last .outcome-lines .ensures .0)),
-      omega (arith, ap length said, length-append (headerLine n (args .cut)) text, first .header .ensures .1, last .outcome-lines .ensures .1),
+      laid-as said (laid-then (first .header .ensures .laid) (last .outcome-lines .ensures .laid)),
+      omega (arith, ap length said, length-append (headerLine n (args .cut)) text, first .header .ensures .short, last .outcome-lines .ensures .short),
     )
 
 pub list-spec : {M : Type 1} → statement M

@@ -35,7 +35,7 @@ loop-again c =
     let turn = c .before .before .before .before .before in
     let args = turn .before .before .before .args in
     let more = c .before .before .processor .ensures in
-    (omega arith, rows-more (turn .loop .inv .1) (more .0) (more .1) (counted-more (processor (args .outcome .now)) (turn .loop .p)))
+    (omega arith, rows-more (turn .loop .inv .1) (more .laid) (more .short) (counted-more (processor (args .outcome .now)) (turn .loop .p)))
 
 put-requires : tie.Need-put-requires Inv-loop μ-loop
 put-requires c κs = search needs
@@ -50,10 +50,10 @@ returns c =
     let args = turn .before .before .before .args in
     let outcome = args .outcome .now in
     let all : turn .loop .p ≡ args .procs = omega arith in
-    let said = ap (λ (n : ℕ). concatMap (processor outcome) (counting 0 n) ++ (10 ∷ [])) all in (
-      laid-as said (laid-then (turn .loop .inv .1 .laid) (c .before .before .put .ensures)),
-      omega (arith, ap length said, turn .loop .inv .1 .short, length-append (concatMap (processor outcome) (counting 0 (turn .loop .p))) (10 ∷ [])),
-    )
+    let said = ap (λ (n : ℕ). concatMap (processor outcome) (counting 0 n) ++ (10 ∷ [])) all in record {
+      laid = laid-as said (laid-then (turn .loop .inv .1 .laid) (c .before .before .put .ensures));
+      short = omega (arith, ap length said, turn .loop .inv .1 .short, length-append (concatMap (processor outcome) (counting 0 (turn .loop .p))) (10 ∷ []));
+    }
 
 pub outcome-line-spec : {M : Type 1} → statement M
 outcome-line-spec =

@@ -57,7 +57,7 @@ loop-again c =
     let k = turn .loop .k in
     let more = c .before .before .outcome-line .ensures in
     let said = recorded-more line records k ∙ ap (λ (r : List ℕ). concatMap line (recordsIn k records) ++ line r) (sym (record-part records k)) in
-    (omega arith, rows-more (turn .loop .inv .1) (more .0) (more .1) said)
+    (omega arith, rows-more (turn .loop .inv .1) (more .laid) (more .short) said)
 
 same-length : tie.Need-same-length Inv-loop μ-loop
 same-length c = ap length (c .before .loop .inv .1 .laid .bytes) ∙ laid-length _ _ _
@@ -69,7 +69,10 @@ returns c =
     let records = args .records .now in
     let all : turn .loop .k ≡ length records / 96 = omega arith in
     let said = ap (λ (n : ℕ). concatMap (outcomeLine (args .procs)) (recordsIn n records)) all in
-    (laid-as said (turn .loop .inv .1 .laid), omega (arith, ap length said, turn .loop .inv .1 .short, ap (λ (n : ℕ). (53 * args .procs + 1) * n) all))
+    record {
+      laid = laid-as said (turn .loop .inv .1 .laid);
+      short = omega (arith, ap length said, turn .loop .inv .1 .short, ap (λ (n : ℕ). (53 * args .procs + 1) * n) all);
+    }
 
 pub outcome-lines-spec : {M : Type 1} → statement M
 outcome-lines-spec =

@@ -28,10 +28,10 @@ returns c =
     let number = last .before .before .before .before in
     let letter = number .before .before .before .before in
     let first = letter .before .before .before .before in
-    let start = first .before .before .before .before in (
-      laid-then (first .gap .ensures) (laid-then (letter .put .ensures) (laid-then (number .decimal .ensures) (last .registers .ensures .0))),
-      processor-short (start .args .outcome .now) (start .args .p) (start .pre) (last .registers .ensures .1),
-    )
+    let start = first .before .before .before .before in record {
+      laid = laid-then (first .gap .ensures) (laid-then (letter .put .ensures) (laid-then (number .decimal .ensures) (last .registers .ensures .laid)));
+      short = processor-short (start .args .outcome .now) (start .args .p) (start .pre) (last .registers .ensures .short);
+    }
 
 pub processor-spec : {M : Type 1} → statement M
 processor-spec =

@@ -52,10 +52,10 @@ returns c =
     let space = defined .before .before .before in
     let args = space .before .before .before .before .args in
     let outcome = args .outcome .now in
-    let said : 32 ∷ register (defined .byte .result) (high .byte2 .result) (low .byte3 .result) ≡ registerAt outcome (args .p) (args .k) = rw (defined .byte .ensures .0, high .byte2 .ensures .0, low .byte3 .ensures .0) in (
-      laid-as said (laid-then (space .put .ensures) (last .register .ensures)),
-      registerAt-short outcome (args .p) (args .k) (omega (arith, high .byte2 .ensures)) (omega (arith, low .byte3 .ensures)),
-    )
+    let said : 32 ∷ register (defined .byte .result) (high .byte2 .result) (low .byte3 .result) ≡ registerAt outcome (args .p) (args .k) = rw (defined .byte .ensures .is, high .byte2 .ensures .is, low .byte3 .ensures .is) in record {
+      laid = laid-as said (laid-then (space .put .ensures) (last .register .ensures));
+      short = registerAt-short outcome (args .p) (args .k) (omega (arith, high .byte2 .ensures .is, high .byte2 .ensures .low)) (omega (arith, low .byte3 .ensures .is, low .byte3 .ensures .low));
+    }
 
 pub register-at-spec : {M : Type 1} → statement M
 register-at-spec =

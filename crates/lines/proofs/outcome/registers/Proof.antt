@@ -34,7 +34,7 @@ loop-again c =
     let turn = c .before .before .before .before .before in
     let args = turn .before .before .before .args in
     let more = c .before .before .register-at .ensures in
-    (omega arith, rows-more (turn .loop .inv .1) (more .0) (more .1) (counted-more (registerAt (args .outcome .now) (args .p)) (turn .loop .k)))
+    (omega arith, rows-more (turn .loop .inv .1) (more .laid) (more .short) (counted-more (registerAt (args .outcome .now) (args .p)) (turn .loop .k)))
 
 same-length : tie.Need-same-length Inv-loop μ-loop
 same-length c = ap length (c .before .loop .inv .1 .laid .bytes) ∙ laid-length _ _ _
@@ -46,7 +46,10 @@ returns c =
     let args = turn .before .before .before .args in
     let all : turn .loop .k ≡ 8 = omega arith in
     let said = ap (λ (n : ℕ). concatMap (registerAt (args .outcome .now) (args .p)) (counting 0 n)) all in
-    (laid-as said (turn .loop .inv .1 .laid), omega (arith, ap length said, turn .loop .inv .1 .short))
+    record {
+      laid = laid-as said (turn .loop .inv .1 .laid);
+      short = omega (arith, ap length said, turn .loop .inv .1 .short);
+    }
 
 pub registers-spec : {M : Type 1} → statement M
 registers-spec =
