@@ -15,6 +15,8 @@ pub fn to_list(rng: &mut Rng) -> Case {
     match rng.below(24) {
         0 | 1 => return two_sections(rng),
         2 | 3 => return spinning(rng),
+        4 | 5 => return repeated(rng),
+        6 => return any_ops(rng, 2, 3),
         _ => (),
     }
     let processors = rng.pick(&[1, 2, 2, 2, 2, 2, 3, 3, 4]);
@@ -88,6 +90,54 @@ fn spinning(rng: &mut Rng) -> Case {
     }
     let writes: Vec<Instr> = (0..rng.below(2)).map(|_| racing(rng)).chain([write(0, 1)]).collect();
     case.program(0, &writes).build().expect("a sound case")
+}
+
+/// Writes of one or two values beside reads into one or two registers: many sources of one value, and reads that
+/// nothing looks at, some through an instruction that nothing looks at either.
+fn repeated(rng: &mut Rng) -> Case {
+    let writes: Vec<Instr> = (0..2 + rng.below(2)).map(|_| write(0, rng.pick(&[1, 1, 7]))).collect();
+    let mut reads: Vec<Instr> = (0..2 + rng.below(2)).map(|_| read(rng.pick(&[2, 2, 3]), rng.pick(&[0, 0, 0, 1]))).collect();
+    if rng.once_in(2) {
+        let at = rng.below(reads.len() + 1);
+        reads.insert(at, rng.pick(&[set(2, 9), add(3, 2, 2), write(0, 2), sub(2, 2, 1), branch(2, at as u16 + 1)]));
+    }
+    let case = (0..2).fold(Case::builder(2, 2), |case, p| case.preset(p, 0, 0).preset(p, 1, 1).preset(p, 7, p as u16 + 5));
+    case.preset(1, 2, 3).program(0, &writes).program(1, &reads).build().expect("a sound case")
+}
+
+/// Every op alike over eight locations, with every register preset: full size with four processors of twelve.
+pub fn any_ops(rng: &mut Rng, processors: usize, count: usize) -> Case {
+    const LOCATIONS: usize = 8;
+    let mut case = Case::builder(processors as u8, LOCATIONS as u8);
+    for location in 0..LOCATIONS {
+        case = case.memory(location, rng.below(LOCATIONS) as u16);
+    }
+    for p in 0..processors {
+        for k in 0..8 {
+            case = case.preset(p, k, rng.below(LOCATIONS) as u16);
+        }
+        let program: Vec<Instr> = (0..count).map(|_| any_op(rng, count)).collect();
+        case = case.program(p, &program);
+    }
+    case.build().expect("a sound case")
+}
+
+fn any_op(rng: &mut Rng, count: usize) -> Instr {
+    let [d, a, b] = [(); 3].map(|()| rng.below(8) as u8);
+    let (label, value) = (rng.below(count + 1) as u16, rng.below(8) as u16);
+    let any = [
+        read(d, a),
+        write(a, b),
+        set(d, value),
+        add(d, a, b),
+        sub(d, a, b),
+        equal(d, a, b),
+        branch(a, label),
+        goto(label),
+        acquire(a),
+        release(a),
+    ];
+    rng.pick(&any)
 }
 
 /// A read or write of one of two locations; register 7 holds a value of the processor's own.

@@ -65,6 +65,11 @@ impl Inputs {
         }
     }
 
+    /// A full-size case: four processors of twelve instructions, eight locations, every op alike.
+    pub fn full_size(&mut self) -> Case {
+        cases::any_ops(&mut self.rng, 4, 12)
+    }
+
     /// A case for boards and a bound: half the time one that tells them apart, else any.
     pub fn boarded(&mut self) -> Listable {
         if self.rng.once_in(2) {

@@ -5,12 +5,14 @@
 #![forbid(unsafe_code)]
 
 mod damaged;
+mod families;
 mod lists;
 mod runs;
 mod stored;
 mod wishes;
 
 pub use damaged::{damaged, Damaged};
+pub use families::{families, Family};
 pub use lists::{lists, locked_message, message};
 pub use runs::runs;
 pub use stored::{outcomes_prints, replay_prints, stored};

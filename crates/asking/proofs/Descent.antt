@@ -27,12 +27,13 @@ use Rattle.rules.proofs.Bytes.{bytes-steps, bytes-length}
 use Rattle.rules.proofs.Listing.{still}
 use Rattle.rules.proofs.Lowest.{written}
 use Rattle.sure.specs.Sure.{forward}
-use Rattle.sure.specs.Spent.{Key, stepBy}
+use Rattle.sure.specs.Spent.{Key, taking, issuing, stepBy}
+use Rattle.sure.specs.Equal.{Needless}
 use Rattle.machine.specs.declared.Machine.{Machine}
 use Rattle.machine.specs.Shown.{shown}
 use Rattle.machine.specs.Valid.{Valid}
-use Rattle.choices.specs.Words.{spentBy}
-use Rattle.choices.specs.Choice.{keyAt, opensAt, NextAt}
+use Rattle.spending.specs.Words.{spentBy, keyAt, opensAt}
+use Rattle.choices.specs.Choice.{NextAt}
 use Rattle.searching.specs.declared.Span.{Span}
 use Rattle.searching.proofs.Opened.{opens-step}
 use Rattle.searching.proofs.Starts.{spent-none}
@@ -58,6 +59,12 @@ module _ {c : Case} {W : List ℕ → Bool} (s : State) {next : State} {n : ℕ}
 unspent : (a : Key) → spentBy (replicate 50 0) a ≡ true → ⊥
 unspent a h = false≢true (ap (λ (f : Key → Bool). f a) (sym spent-none) ∙ h)
 
+-- so none is needless
+needed : (c : Case) (s : State) (a : Key) → Needless c s (spentBy (replicate 50 0)) a → ⊥
+needed c s (taking k e) (inl h) = unspent (taking k e) h
+needed c s (taking k e) (inr x) = unspent (taking k (x .source)) (x .rests)
+needed c s (issuing p) h = unspent (issuing p) h
+
 module _ (c : Case) (W : Wish) (s : State) (n : ℕ) where
   -- within n steps after the step at position j none is wanted
   abbrev pub Vain : ℕ → Type 0
@@ -75,7 +82,7 @@ module _ (c : Case) (W : Wish) (s : State) (n : ℕ) where
     upto-next i a b l o =
         elim (decLt i at) [
           | yes h ↦ S .2 i a h l o
-          | no h ↦ absurd (unspent (keyAt i) (N .skipped i (omega arith) b o))
+          | no h ↦ absurd (needed c s (keyAt i) (N .skipped i (omega arith) b o))
         ]
 
     pub skipped-more : (j < to → Vain j) → Skipped from to (j + 1)

@@ -22,12 +22,11 @@ use Rattle.rules.proofs.Accepted.{can-issue, can-commit, neither-no}
 use Rattle.rules.proofs.Actions.{waits-proc}
 use Rattle.sure.specs.Spent.{Key, taking, stepBy}
 use Rattle.sure.proofs.Commit.{the, source-zero}
-use Rattle.sure.proofs.Search.{known}
+use Rattle.sure.proofs.Known.{known}
 use Rattle.sure.proofs.Sweep.{source-there}
 use Rattle.records.proofs.Growth.{in-second}
-use Rattle.choices.specs.Words.{opens, keyIn}
-use Rattle.choices.specs.Choice.{keyAt, opensAt}
-use Rattle.choices.proofs.Spends.{key-issue}
+use Rattle.spending.specs.Words.{opens, keyIn, keyAt, opensAt}
+use Rattle.spending.proofs.Spends.{key-issue}
 use Rattle.searching.specs.declared.Span.{Span}
 use Rattle.searching.proofs.Opened.{key-read, read-open, other-open, issue-open}
 use Rattle.asking.specs.Inner.{stepAt, rowOf, rankIn, Placed, RowSpan}

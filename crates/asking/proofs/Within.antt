@@ -19,7 +19,7 @@ use Rattle.machine.specs.declared.Machine.{Machine}
 use Rattle.records.specs.Buffer.{recordsIn, Among}
 use Rattle.records.specs.Growth.{MoreThan}
 use Rattle.records.proofs.Closing.{filled-size, filled-more}
-use Rattle.choices.specs.Words.{spentBy}
+use Rattle.spending.specs.Words.{spentBy}
 use Rattle.searching.specs.declared.Tally.{Tally}
 use Rattle.searching.specs.Ready.{Ready}
 use Rattle.searching.specs.Searched.{Tells, Searched}

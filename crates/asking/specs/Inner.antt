@@ -8,11 +8,12 @@ use lib.ListN.{length, replicate}
 use Rattle.words.specs.Small.{concatMap}
 use Rattle.cases.specs.declared.Case.{Case}
 use Rattle.clauses.specs.declared.Asked.{Asked}
-use Rattle.clauses.specs.Wanted.{Askable}
+use Rattle.clauses.specs.Wanted.{Askable, wanted}
 use Rattle.runs.specs.Outcome.{CutFrom}
 use Rattle.runs.specs.Reachable.{Reachable}
 use Rattle.runs.specs.Wanted.{Wish, WantedFrom, LowestFrom}
 use Rattle.runs.specs.Listing.{below}
+use Rattle.rules.specs.Result.{finished}
 use Rattle.rules.specs.State.{State, initial}
 use Rattle.rules.specs.Step.{Step, issue, commit, neither, stepCode, after}
 use Rattle.rules.specs.Womm.{womm}
@@ -20,9 +21,10 @@ use Rattle.rules.specs.Bytes.{stepBytes}
 use Rattle.sure.specs.Spent.{stepBy}
 use Rattle.sure.specs.Sure.{forward}
 use Rattle.machine.specs.declared.Machine.{Machine}
+use Rattle.machine.specs.Fit.{Fit}
 use Rattle.machine.specs.Shown.{shown}
 use Rattle.machine.specs.Valid.{Valid}
-use Rattle.choices.specs.Choice.{keyAt, opensAt}
+use Rattle.spending.specs.Words.{keyAt, opensAt}
 use Rattle.searching.specs.declared.Span.{Span}
 use Rattle.asking.specs.declared.Reach.{Reach}
 
@@ -46,6 +48,41 @@ pub record ReachOf (c : Case) (W : Wish) (s : State) (n : ℕ) (r : Reach) : Typ
 -- The step at a position.
 abbrev pub stepAt : State → ℕ → Step
 stepAt s j = stepBy s (keyAt j)
+
+-- Such a machine, with a step to go, and positions to look at.
+pub record Looking (c : Case) (m : Machine) (n : ℕ) (ahead : Bool) (asked : Asked) (from to : ℕ) : Type 0 where
+  pub standing : Standing c m n ahead asked
+  pub more : 0 < n
+  pub rising : from ≤ to
+  pub upto : to ≤ 3200
+
+-- Such a machine, not finished, from which an outcome is wanted.
+pub record Leading (c : Case) (m : Machine) (n : ℕ) (ahead : Bool) (asked : Asked) : Type 0 where
+  pub standing : Standing c m n ahead asked
+  pub more : 0 < n
+  pub undone : finished c (shown c m) ≡ false
+  pub held : InReach c (wanted asked) (shown c m) n
+
+-- A machine that is reached, and a row of its steps.
+pub record Rowed (c : Case) (m : Machine) (i : ℕ) : Type 0 where
+  pub valid : Valid c m
+  pub reached : Reachable (womm c) (shown c m)
+  pub low : i < 193
+
+-- A machine, and the position of an accepted step.
+pub record Fitting (c : Case) (m : Machine) (j : ℕ) : Type 0 where
+  pub valid : Valid c m
+  pub low : j < 3200
+  pub fits : stepCode c (shown c m) (stepAt (shown c m) j) ≡ 0
+
+-- A case from whose start an outcome is wanted, and an empty schedule.
+pub record Wanting (c : Case) (n : ℕ) (ahead : Bool) (asked : Asked) (bytes : List ℕ) : Type 0 where
+  pub fit : Fit c
+  pub forwards : ahead ≡ forward c
+  pub few : n ≤ 96
+  pub asks : Askable asked
+  pub held : InReach c (wanted asked) (initial c) n
+  pub clear : bytes ≡ replicate 384 0
 
 -- The first position from `from` on after whose step, which is accepted, one is within n steps, or `to` where there is none before it.
 pub record FirstInReach (c : Case) (W : Wish) (s : State) (n from to j : ℕ) : Type 0 where

@@ -7,23 +7,18 @@ use searching::Span;
 use searching::Tally;
 ghost use mathlib.Core.Path.{_≡_};
 ghost use mathlib.Core.Bool.{true, false};
-ghost use mathlib.Core.List.{List, [], _∷_};
-ghost use Prim.Native.Nat.{ℕ, _+_, _-_, _≤_, _<_};
-ghost use lib.ListN.{length, set, replicate};
+ghost use mathlib.Core.List.{[], _∷_};
+ghost use Prim.Native.Nat.{_+_, _-_, _≤_, _<_};
+ghost use lib.ListN.{length, set};
 ghost use Rattle.clauses.specs.Wanted.{wanted, Askable, clausesOf};
 ghost use Rattle.runs.specs.Asking.{Laid, IsAnswer, Refused};
-ghost use Rattle.runs.specs.Reachable.{Reachable};
 ghost use Rattle.rules.specs.Result.{finished};
-ghost use Rattle.rules.specs.Step.{stepCode};
-ghost use Rattle.rules.specs.State.{initial};
 ghost use Rattle.rules.specs.Womm.{womm};
 ghost use Rattle.rules.specs.Bytes.{stepBytes};
-ghost use Rattle.sure.specs.Sure.{forward as isForward};
 ghost use Rattle.machine.specs.Fit.{Fit};
 ghost use Rattle.machine.specs.Shown.{shown};
-ghost use Rattle.machine.specs.Valid.{Valid};
 ghost use Rattle.asking.specs.Asked.{answerOf, badClause, badClauses, IsAsked};
-ghost use Rattle.asking.specs.Inner.{Standing, InReach, ReachOf, stepAt, FirstInReach, RowSpan, LowestAt};
+ghost use Rattle.asking.specs.Inner.{Standing, Looking, Leading, Rowed, Fitting, Wanting, ReachOf, stepAt, FirstInReach, RowSpan, LowestAt};
 
 // Whether an outcome is within reach, and, if none is, whether a run was cut.
 pub struct Reach {
@@ -76,7 +71,7 @@ fn first_in_reach(
     from: usize,
     to: usize,
 ) -> usize
-    requires { ⌜ Standing c m n ahead asked × (0 < n) × (from ≤ to) × (to ≤ 3200) ⌝ }
+    requires { ⌜ Looking c m n ahead asked from to ⌝ }
     ensures { λ r. ⌜ FirstInReach c (wanted asked) (shown c m) (n - 1) from to r ⌝ }
 {
     let none = [0u64; 50];
@@ -96,7 +91,7 @@ fn first_in_reach(
 
 // The positions of row i: the issues, or the commits of one processor and action.
 fn row_span(c: Case, m: Machine, i: usize) -> Span
-    requires { ⌜ Valid c m × Reachable (womm c) (shown c m) × (i < 193) ⌝ }
+    requires { ⌜ Rowed c m i ⌝ }
     ensures { λ r. ⌜ RowSpan c (shown c m) i r ⌝ }
 {
     if i == 0 {
@@ -129,7 +124,7 @@ fn row_span(c: Case, m: Machine, i: usize) -> Span
 
 // The position of the lowest step after which an outcome is within reach.
 fn lowest_step(c: Case, m: Machine, n: usize, ahead: bool, asked: Asked) -> usize
-    requires { ⌜ Standing c m n ahead asked × (0 < n) × (finished c (shown c m) ≡ false) × InReach c (wanted asked) (shown c m) n ⌝ }
+    requires { ⌜ Leading c m n ahead asked ⌝ }
     ensures { λ r. ⌜ LowestAt c (wanted asked) (shown c m) (n - 1) r ⌝ }
 {
     let mut i: usize = 0;
@@ -147,7 +142,7 @@ fn lowest_step(c: Case, m: Machine, n: usize, ahead: bool, asked: Asked) -> usiz
 
 // The bytes of the step at position j.
 fn bytes_at(c: Case, m: Machine, j: usize) -> Bytes
-    requires { ⌜ Valid c m × (j < 3200) × (stepCode c (shown c m) (stepAt (shown c m) j) ≡ 0) ⌝ }
+    requires { ⌜ Fitting c m j ⌝ }
     ensures { λ r. ⌜ stepBytes (stepAt (shown c m) j) ≡ (r .kind ∷ r .proc ∷ r .action ∷ r .source ∷ []) ⌝ }
 {
     if 49 <= j / 64 {
@@ -158,7 +153,7 @@ fn bytes_at(c: Case, m: Machine, j: usize) -> Bytes
             source: 0,
         };
     }
-    let k = choices::action_at(j);
+    let k = spending::action_at(j);
     let e = m.acts[k];
     Bytes {
         kind: 1,
@@ -181,7 +176,7 @@ fn put_step(out: &mut [u8], at: usize, t: Bytes)
 
 // Lays the lowest schedule to an outcome into a cleared buffer and gives its length.
 fn lowest(c: Case, n: usize, ahead: bool, asked: Asked, out: &mut [u8]) -> usize
-    requires { ⌜ Fit c × (ahead ≡ isForward c) × (n ≤ 96) × Askable asked × InReach c (wanted asked) (initial c) n × (now out ≡ replicate 384 0) ⌝ }
+    requires { ⌜ Wanting c n ahead asked (now out) ⌝ }
     ensures { λ r. ⌜ Laid (womm c) (wanted asked) stepBytes n 384 r (now (out .exit)) ⌝ }
 {
     let mut m = machine::start(c);

@@ -1,13 +1,14 @@
 -- The sure step, the quiet read and the step that is taken. Assumes nothing.
-use mathlib.Core.Path.{_≡_, refl, sym, ap, subst, _∙_}
+use mathlib.Core.Path.{_≡_, refl, sym, ap, ap₂, subst, _∙_}
+use mathlib.Core.Logic.{inl, inr, ⊎-elim}
 use mathlib.Core.Bool.{Bool, true, false, _&&_, _||_, not, false≢true}
-use Prim.Native.Nat.{ℕ, _+_, _/_, _%_, _<_, _≤_}
+use Prim.Native.Nat.{ℕ, _+_, _*_, _/_, _%_, _<_, _≤_}
 use native.Mathlib.Omega.{arith}
 use native.Mathlib.Decide.{decLt}
 use lib.Dec.{eqb}
 use borrow.Author.Tests.{eqb-true, eq-eqb}
 use Rattle.words.specs.Small.{someBelow}
-use Rattle.words.proofs.Bools.{and-make}
+use Rattle.words.proofs.Bools.{and-make, or-cases}
 use Rattle.cases.specs.declared.Case.{Case}
 use Rattle.rules.specs.Kinds.{reading}
 use Rattle.rules.specs.State.{State, kindOf}
@@ -15,13 +16,16 @@ use Rattle.rules.specs.Issue.{issued}
 use Rattle.rules.specs.Commit.{committed}
 use Rattle.rules.specs.Step.{issue, commit, stepCode, after}
 use Rattle.rules.proofs.Accepted.{can-commit, after-issue, after-commit}
-use Rattle.sure.specs.Sure.{sureKind, roomy, sure}
+use Rattle.sure.specs.Sure.{sureKind, roomy}
+use Rattle.sure.specs.Marked.{Alone}
+use Rattle.sure.specs.Dead.{DeadRead}
 use Rattle.sure.specs.Quiet.{ended, pending, quiet}
 use Rattle.sure.specs.Spent.{Key, taking, issuing, stepBy}
-use Rattle.choices.specs.Choice.{keyAt, SureAt, QuietAt}
-use Rattle.choices.specs.Opening.{SureCommit, SettledRead}
-use Rattle.choices.proofs.Spends.{key-lone, key-issue}
-use Rattle.choices.proofs.Rests.{actionAt, sourceAt, key-taken}
+use Rattle.spending.specs.Words.{keyAt, opens}
+use Rattle.choices.specs.Choice.{SureAt, QuietAt}
+use Rattle.choices.specs.Opening.{SureCommit, DeadAt, SettledRead}
+use Rattle.spending.proofs.Spends.{key-read, key-lone, key-issue}
+use Rattle.spending.proofs.Rests.{actionAt, sourceAt, key-taken}
 use Rattle.choices.proofs.Opens.{opens-accepts}
 
 -- sure commits
@@ -32,6 +36,17 @@ sure-test k q h = rw h (both (eqb q 1) (eqb q 6))
     both : (a b : Bool) → (not a && not b) ≡ not (a || b)
     both true b = refl
     both false b = refl
+
+-- the commit of a dead read, at its position
+pub dead-at : (c : Case) (s : State) (k e : ℕ) → k < 48 → e < 64 → opens c s k e ≡ true → DeadRead s k → DeadAt c s (64 * k + e)
+dead-at c s k e l h o d =
+    let p : (64 * k + e) / 64 ≡ k = omega arith in
+    let q : (64 * k + e) % 64 ≡ e = omega arith in
+    record {
+      low = omega (arith, p);
+      opened = ap₂ (opens c s) p q ∙ o;
+      gone = subst (DeadRead s) (sym p) d;
+    }
 
 module _ (c : Case) (s : State) where
   -- no action below n is of a sure kind with an accepted commit
@@ -63,29 +78,38 @@ module _ (c : Case) (s : State) where
 
   -- the sure step
 
-  module _ (n k : ℕ) (S : SureCommit c s k) where
-    pub sure-lone : k < 48 → SureAt c n s (3072 + k)
+  module _ (marked : Bool) (n k : ℕ) (S : SureCommit c s k) where
+    pub sure-lone : k < 48 → SureAt c marked n s (3072 + k)
     sure-lone h =
         let p : (3072 + k) / 64 ≡ 48 = omega arith in
         let q : (3072 + k) % 64 ≡ k = omega arith in
         let e : keyAt (3072 + k) ≡ taking k 0 = key-lone ((3072 + k) / 64) ((3072 + k) % 64) p ∙ ap (λ (i : ℕ). taking i 0) q in
         record {
-          found = λ l. subst (λ (a : Key). (stepCode c s (stepBy s a) ≡ 0) × (sure c n s (stepBy s a) ≡ true)) (sym e) (S .found h);
+          found = λ l. subst (λ (a : Key). (stepCode c s (stepBy s a) ≡ 0) × Alone c marked n s (stepBy s a)) (sym e) (S .found h .0, inl (inl (S .found h .1)));
           none = λ l. absurd (omega arith);
         }
 
-    pub sure-issue : (p : ℕ) → p < 4 → stepCode c s (issue p) ≡ 0 → roomy c n s ≡ true → SureAt c n s (3136 + p)
+    pub sure-issue : (p : ℕ) → p < 4 → stepCode c s (issue p) ≡ 0 → (marked || roomy c n s) ≡ true → SureAt c marked n s (3136 + p)
     sure-issue p h x r =
         let w : 49 ≤ (3136 + p) / 64 = omega arith in
         let q : (3136 + p) % 64 ≡ p = omega arith in
         let e : keyAt (3136 + p) ≡ issuing p = key-issue ((3136 + p) / 64) ((3136 + p) % 64) w ∙ ap issuing q in
         record {
-          found = λ l. subst (λ (a : Key). (stepCode c s (stepBy s a) ≡ 0) × (sure c n s (stepBy s a) ≡ true)) (sym e) (x, r);
+          found = λ l. subst (λ (a : Key). (stepCode c s (stepBy s a) ≡ 0) × Alone c marked n s (stepBy s a)) (sym e) (x, ⊎-elim (λ m. inr (and-make marked true m refl)) (λ f. inl (inl f)) (or-cases marked (roomy c n s) r));
           none = λ l. absurd (omega arith);
         }
 
-    pub sure-none : 48 ≤ k → SureAt c n s 3200
-    sure-none h = record { found = λ l. absurd (omega arith); none = λ l. S .none h }
+    -- the commit of a dead read, or none
+    pub sure-dead : 48 ≤ k → (j : ℕ) → (j < 3200 → DeadAt c s j) → SureAt c marked n s j
+    sure-dead h j D =
+        record {
+          found = λ l.
+              let d = D l in
+              let a = opens-accepts c s (j / 64) (j % 64) (d .low) (d .opened) in
+              let e : keyAt j ≡ taking (j / 64) (j % 64) = key-read (j / 64) (j % 64) (d .low) in
+              subst (λ (a : Key). (stepCode c s (stepBy s a) ≡ 0) × Alone c marked n s (stepBy s a)) (sym e) (a .1, inl (inr (d .gone)));
+          none = λ l. S .none h;
+        }
 
   -- the quiet read
 

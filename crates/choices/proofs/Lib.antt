@@ -1,6 +1,3 @@
-pub mod Bits
-pub mod Spends
-pub mod Rests
 pub mod Sights
 pub mod Opens
 pub mod Next

@@ -1,20 +1,29 @@
 -- The next position of a sweep, and a set that is not empty. Assumes nothing.
 use mathlib.Core.Path.{_≡_, sym, ap, subst, _∙_}
+use mathlib.Core.Logic.{inr, ⊎-elim}
 use mathlib.Core.Bool.{true, false, false≢true}
 use mathlib.Core.List.{List}
 use Prim.Native.Nat.{ℕ, zero, suc, _+_, _/_, _%_, _^_, _<_, _≤_}
 use native.Mathlib.Omega.{arith}
 use native.Mathlib.Decide.{decLt}
-use lib.Dec.{eqb}
+use lib.Dec.{eqb, ltb}
+use lib.ListN.{getD}
 use lib.Pow.{shr-shr}
-use borrow.Author.Tests.{eq-eqb}
+use borrow.Author.Tests.{eq-eqb, lt-ltb}
 use Rattle.words.specs.Sets.{has}
 use Rattle.words.proofs.Sets.{has-zero}
+use Rattle.words.proofs.Bools.{decide, or-left, and-make}
 use Rattle.cases.specs.declared.Case.{Case}
 use Rattle.rules.specs.State.{State}
-use Rattle.choices.specs.Words.{opens, spentBy}
-use Rattle.choices.specs.Choice.{keyAt, opensAt, NextAt}
+use Rattle.sure.specs.Spent.{taking}
+use Rattle.sure.specs.Equal.{Needless}
+use Rattle.sure.proofs.Equal.{needless-spent}
+use Rattle.spending.specs.Words.{keyIn, opens, spentBy, keyAt, opensAt}
+use Rattle.choices.specs.Choice.{NextAt}
+use Rattle.needless.specs.Echoes.{EchoIn, Unechoed}
 use Rattle.choices.specs.Opening.{FirstFresh}
+use Rattle.spending.proofs.Spends.{key-read}
+use Rattle.choices.proofs.Opens.{opens-accepts}
 
 -- every bit from `at` on, before i, that is set is spent
 abbrev pub Skipped : ℕ → List ℕ → ℕ → ℕ → Type 0
@@ -40,32 +49,52 @@ module _ (word : ℕ) (now : List ℕ) (at : ℕ) where
   pub fresh-found : (end i : ℕ) → at ≤ i → i < end → Skipped word now at i → has word (i % 64) ≡ true → spentBy now (keyAt i) ≡ false → FirstFresh word now at end i
   fresh-found end i h k S x y = record { from = h; upto = omega arith; skipped = S; found = λ z. (x, y) }
 
--- every accepted step from `at` on, before i, is spent
+-- every accepted step from `at` on, before i, is spent or does what a spent one does
 abbrev pub Passed : Case → State → List ℕ → ℕ → ℕ → Type 0
-Passed c s now at i = (q : ℕ) → at ≤ q → q < i → opensAt c s q ≡ true → spentBy now (keyAt q) ≡ true
+Passed c s now at i = (q : ℕ) → at ≤ q → q < i → opensAt c s q ≡ true → Needless c s (spentBy now) (keyAt q)
+
+read-spent : (now : List ℕ) (w e : ℕ) → w < 48 → has (getD now w 0) e ≡ true → spentBy now (taking w e) ≡ true
+unfolding spentBy
+read-spent now w e l h = or-left _ _ (and-make (ltb w 48) _ (lt-ltb w 48 l) h)
 
 module _ (c : Case) (s : State) (now : List ℕ) (at to : ℕ) where
-  module _ (j end word : ℕ) (same : (i : ℕ) → j ≤ i → i < end → i / 64 ≡ j / 64) (short : end ≤ 3200) (bits : (e : ℕ) → e < 64 → has word e ≡ opens c s (j / 64) e) where
+  module _ (j end word : ℕ) (same : (i : ℕ) → j ≤ i → i < end → i / 64 ≡ j / 64) (short : end ≤ 3200) (bits : (e : ℕ) → e < 64 → has word e ≡ opens c s (j / 64) e) (left : ℕ) (rest : Unechoed c s now (j / 64) word left) where
     open-at : (i : ℕ) → j ≤ i → i < end → has word (i % 64) ≡ opensAt c s i
     open-at i h k = bits (i % 64) (omega arith) ∙ ap (λ (w : ℕ). opens c s w (i % 64)) (sym (same i h k))
 
-    passed-word : (i : ℕ) → i ≤ end → Skipped word now j i → Passed c s now at j → Passed c s now at i
+    -- what is left out has the value of a spent one
+    echoed : (i : ℕ) → j ≤ i → i < end → EchoIn c s now (j / 64) word (i % 64) → Needless c s (spentBy now) (keyAt i)
+    echoed i h k E =
+        let w : i / 64 ≡ j / 64 = same i h k in
+        subst (Needless c s (spentBy now)) (sym (key-read (j / 64) (i % 64) (E .low)) ∙ ap (λ (v : ℕ). keyIn v (i % 64)) (sym w))
+        (inr (record {
+          source = E .source;
+          rests = read-spent now (j / 64) (E .source) (E .low) (E .spent);
+          fits = opens-accepts c s (j / 64) (E .source) (E .low) (sym (bits (E .source) (omega (arith, E .small))) ∙ E .seen) .1;
+          same = E .same;
+        }))
+
+    passed-word : (i : ℕ) → i ≤ end → Skipped left now j i → Passed c s now at j → Passed c s now at i
     passed-word i k S P q a b x =
         elim (decLt q j) [
           | yes l ↦ P q a l x
-          | no l ↦ S q (omega arith) b (open-at q (omega arith) (omega arith) ∙ x)
+          | no l ↦
+              ⊎-elim
+              (λ y. needless-spent c s (spentBy now) (keyAt q) (S q (omega arith) b y))
+              (λ y. echoed q (omega arith) (omega arith) (rest .gone (q % 64) (omega arith) (open-at q (omega arith) (omega arith) ∙ x) y))
+              (decide (has left (q % 64)))
         ]
 
-    pub pass-more : (r : ℕ) → FirstFresh word now j end r → end ≤ r → Passed c s now at j → Passed c s now at end
+    pub pass-more : (r : ℕ) → FirstFresh left now j end r → end ≤ r → Passed c s now at j → Passed c s now at end
     pass-more r F h P = let z : r ≡ end = omega (arith, F .upto) in subst (Passed c s now at) z (passed-word r (F .upto) (F .skipped) P)
 
-    pub next-found : (r : ℕ) → at ≤ j → end ≤ to → FirstFresh word now j end r → r < end → Passed c s now at j → NextAt c s now at to r
+    pub next-found : (r : ℕ) → at ≤ j → end ≤ to → FirstFresh left now j end r → r < end → Passed c s now at j → NextAt c s now at to r
     next-found r a t F h P =
         record {
           from = omega (arith, F .from);
           upto = omega arith;
           skipped = passed-word r (F .upto) (F .skipped) P;
-          found = λ k. (sym (open-at r (F .from) h) ∙ F .found h .0, F .found h .1);
+          found = λ k. (sym (open-at r (F .from) h) ∙ rest .inside (r % 64) (F .found h .0), F .found h .1);
         }
 
   pub next-none : (j : ℕ) → j ≡ to → at ≤ to → Passed c s now at j → NextAt c s now at to to

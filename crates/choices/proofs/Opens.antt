@@ -24,7 +24,7 @@ use Rattle.machine.specs.declared.Entry.{Entry}
 use Rattle.machine.specs.Shown.{Acts}
 use Rattle.machine.proofs.Entries.{action-out}
 use Rattle.committing.specs.Committed.{holding}
-use Rattle.choices.specs.Words.{opens}
+use Rattle.spending.specs.Words.{opens}
 use Rattle.choices.specs.Opening.{queuedRead, readyRead}
 
 never : (b : Bool) → (b ≡ true → ⊥) → b ≡ false

@@ -1,4 +1,2 @@
-pub mod Words
 pub mod Choice
-pub mod Resting
 pub mod Opening

@@ -2,7 +2,7 @@
 use mathlib.Core.Path.{_≡_}
 use mathlib.Core.Bool.{Bool, true, false, _&&_, _||_, not}
 use mathlib.Core.List.{List}
-use Prim.Native.Nat.{ℕ, _%_, _≤_, _<_}
+use Prim.Native.Nat.{ℕ, _/_, _%_, _≤_, _<_}
 use lib.Dec.{eqb, leb}
 use Rattle.words.specs.Small.{isNone, any, someBelow}
 use Rattle.words.specs.Sets.{has}
@@ -14,11 +14,11 @@ use Rattle.rules.specs.Commit.{writes}
 use Rattle.rules.specs.Step.{commit, stepCode}
 use Rattle.sure.specs.Sure.{sureKind}
 use Rattle.sure.specs.Quiet.{pending}
+use Rattle.sure.specs.Dead.{DeadRead}
 use Rattle.machine.specs.declared.Entry.{Entry}
 use Rattle.machine.specs.declared.Machine.{Machine}
 use Rattle.committing.specs.Committed.{holding}
-use Rattle.choices.specs.Words.{opens, spentBy}
-use Rattle.choices.specs.Choice.{keyAt}
+use Rattle.spending.specs.Words.{keyAt, opens, spentBy}
 
 -- The action is a write to location l.
 abbrev pub writeTo : ℕ → Action → Bool
@@ -57,6 +57,12 @@ pub record FirstFresh (word : ℕ) (now : List ℕ) (at end j : ℕ) : Type 0 wh
 pub record SureCommit (c : Case) (s : State) (j : ℕ) : Type 0 where
   pub found : j < 48 → (stepCode c s (commit (s .actions j .proc) j 0) ≡ 0) × (sureKind (kindOf (s .actions j)) ≡ true)
   pub none : 48 ≤ j → (k : ℕ) → k < s .count → sureKind (kindOf (s .actions k)) ≡ true → stepCode c s (commit (s .actions k .proc) k 0) ≡ 0 → ⊥
+
+-- Position j is that of an accepted commit of a dead read.
+pub record DeadAt (c : Case) (s : State) (j : ℕ) : Type 0 where
+  pub low : j / 64 < 48
+  pub opened : opens c s (j / 64) (j % 64) ≡ true
+  pub gone : DeadRead s (j / 64)
 
 -- Action k is a read that is accepted from some item, and no write to its location is queued.
 pub record SettledRead (c : Case) (s : State) (k : ℕ) : Type 0 where

@@ -1,32 +1,32 @@
-// The steps that a search takes from a machine: the sure one, the quiet read's, or all, without those that are spent.
+// The steps that a search takes from a machine: one that may be taken alone, the quiet read's, or all, without those that are spent or needless.
 use cases::Case;
 use cases::Instr;
 use machine::Entry;
 use machine::Machine;
 ghost use mathlib.Core.Path.{_≡_};
-ghost use mathlib.Core.Bool.{Bool, true, _&&_, _||_, not, cond};
-ghost use Prim.Native.Nat.{ℕ, suc, _+_, _/_, _%_, _≤_, _<_};
-ghost use lib.Dec.{eqb, ltb, leb};
+ghost use mathlib.Core.Bool.{Bool, true, _&&_, not, cond};
+ghost use Prim.Native.Nat.{ℕ, _+_, _/_, _%_, _≤_, _<_};
+ghost use lib.Dec.{eqb, ltb};
 ghost use lib.ListN.{length, getD};
 ghost use Rattle.words.specs.Small.{isNone, someBelow};
 ghost use Rattle.words.specs.Sets.{has as inSet};
 ghost use Rattle.cases.specs.declared.Case.{Case as TheCase};
 ghost use Rattle.cases.specs.Case.{countOf, instrAt};
-ghost use Rattle.rules.specs.State.{State};
+ghost use Rattle.rules.specs.Kinds.{reading};
+ghost use Rattle.rules.specs.State.{State, kindOf};
 ghost use Rattle.rules.specs.Commit.{writes, visible};
 ghost use Rattle.rules.specs.Step.{commit, stepCode, after};
 ghost use Rattle.sure.specs.Sure.{backward, forward as isForward};
 ghost use Rattle.sure.specs.Quiet.{ended as hasEnded, pending};
-ghost use Rattle.sure.specs.Spent.{stepBy, rivals as areRivals};
+ghost use Rattle.sure.specs.Spent.{stepBy};
 ghost use Rattle.orders.specs.Rows.{orderOf, SetOf};
 ghost use Rattle.machine.specs.Shown.{holderOf, placeOf, namesOf, shownEntry, shown, Acts};
 ghost use Rattle.machine.specs.Fit.{Fit};
 ghost use Rattle.machine.specs.Valid.{Valid};
 ghost use Rattle.committing.specs.Committed.{Entries};
-ghost use Rattle.choices.specs.Words.{opens, spentBy};
-ghost use Rattle.choices.specs.Choice.{keyAt, SureAt, QuietAt, NextAt, Noted, RestedBy};
-ghost use Rattle.choices.specs.Resting.{Cleared};
-ghost use Rattle.choices.specs.Opening.{writeTo, givenTo, Covers, queuedRead, readyRead, machineOf, FirstFresh, SureCommit, SettledRead};
+ghost use Rattle.spending.specs.Words.{keyAt, opens};
+ghost use Rattle.choices.specs.Choice.{SureAt, QuietAt, NextAt};
+ghost use Rattle.choices.specs.Opening.{writeTo, givenTo, Covers, queuedRead, readyRead, machineOf, FirstFresh, SureCommit, DeadAt, SettledRead};
 
 // Whether the instruction, at a place, may lead back to that place or before it.
 fn leads_back(i: Instr, place: usize) -> bool
@@ -69,153 +69,6 @@ pub fn forward(c: Case) -> bool
         p += 1;
     }
     !found
-}
-
-// Whether the step at position j is spent.
-pub fn is_spent(spent: &[u64; 50], j: usize) -> bool
-    requires { ⌜ j < 3200 ⌝ }
-    ensures { λ r. ⌜ r ≡ spentBy (now (spent .entry)) (keyAt j) ⌝ }
-{
-    let w = j / 64;
-    let e = j % 64;
-    let here = words::has(spent[w], e);
-    if w < 48 {
-        let lone = words::has(spent[48], w);
-        return here | ((e == 0) & lone);
-    }
-    if w == 48 {
-        if e < 48 {
-            let first = words::has(spent[e], 0);
-            return first | here;
-        }
-    }
-    here
-}
-
-// The step at position j is spent too.
-pub fn note(spent: [u64; 50], j: usize) -> [u64; 50]
-    requires { ⌜ (j < 3200) × (length spent ≡ 50) ⌝ }
-    ensures { λ r. ⌜ Noted spent j r ⌝ }
-{
-    let w = j / 64;
-    let bit = words::one(j % 64);
-    let mut more = spent;
-    more[w] = more[w] | bit;
-    more
-}
-
-// The set x without what it has in common with y.
-fn minus(x: u64, y: u64) -> u64
-    ensures { λ r. ⌜ ((a : ℕ) → inSet r a ≡ (inSet x a && not (inSet y a))) ⌝ }
-{
-    x ^ (x & y)
-}
-
-// Whether both are acquires of one location.
-fn rivals(c: Case, acts: [Entry; 48], issued: usize, a: Entry, b: Entry) -> bool
-    requires { ⌜ (issued ≤ 48) × (length acts ≡ 48) ⌝ }
-    ensures { λ r. ⌜ ((s : State) → Acts c issued acts s → r ≡ areRivals s (shownEntry c a) (shownEntry c b)) ⌝ }
-{
-    let i = a.instr;
-    if rules::kind_of(i) != 6 {
-        return false;
-    }
-    let i = b.instr;
-    if rules::kind_of(i) != 6 {
-        return false;
-    }
-    let x = committing::input(c, acts, issued, a.first);
-    let y = committing::input(c, acts, issued, b.first);
-    x == y
-}
-
-// The acquires of the location that action e acquires.
-fn woken(c: Case, acts: [Entry; 48], issued: usize, e: Entry) -> u64
-    requires { ⌜ (issued ≤ 48) × (length acts ≡ 48) ⌝ }
-    ensures { λ r. ⌜ ((s : State) → Acts c issued acts s → SetOf issued (λ k. areRivals s (shownEntry c e) (s .actions k)) r) ⌝ }
-{
-    let mut items: u64 = 0;
-    let mut k: usize = 0;
-    while k < issued {
-        let b = acts[k];
-        let test = rivals(c, acts, issued, e, b);
-        items = orders::with(items, k, test);
-        k += 1;
-    }
-    items
-}
-
-// The word, or nothing.
-fn word_unless(x: u64, gone: bool) -> u64
-    ensures { λ r. ⌜ ((a : ℕ) → inSet r a ≡ (inSet x a && not gone)) ⌝ }
-{
-    if gone {
-        return 0;
-    }
-    x
-}
-
-// The words without the commits of the actions of a set.
-fn cleared(spent: [u64; 50], gone: u64) -> [u64; 50]
-    requires { ⌜ length spent ≡ 50 ⌝ }
-    ensures { λ r. ⌜ Cleared spent gone 48 r ⌝ }
-{
-    let mut less = spent;
-    less[48] = minus(less[48], gone);
-    let mut k: usize = 0;
-    while k < 48 {
-        let test = words::has(gone, k);
-        less[k] = word_unless(less[k], test);
-        k += 1;
-    }
-    less
-}
-
-// The processors of a set whose issues stay spent when p issues.
-fn still_spent(x: u64, issued: usize, p: usize) -> u64
-    requires { ⌜ (issued ≤ 48) × (p < 64) ⌝ }
-    ensures { λ r. ⌜ ((q : ℕ) → inSet r q ≡ (inSet x q && not (eqb q p || leb 48 (suc issued)))) ⌝ }
-{
-    if 48 <= issued + 1 {
-        return 0;
-    }
-    let bit = words::one(p);
-    minus(x, bit)
-}
-
-// The action that the step at position j commits.
-pub fn action_at(j: usize) -> usize
-    ensures { λ r. ⌜ r ≡ cond (ltb (j / 64) 48) (j / 64) (j % 64) ⌝ }
-{
-    if j / 64 < 48 {
-        return j / 64;
-    }
-    j % 64
-}
-
-// What stays spent when the step at position j is taken.
-pub fn rest(c: Case, m: Machine, spent: [u64; 50], j: usize) -> [u64; 50]
-    requires { ⌜ Valid c m × (j < 3200) × (length spent ≡ 50) × (stepCode c (shown c m) (stepBy (shown c m) (keyAt j)) ≡ 0) ⌝ }
-    ensures { λ r. ⌜ RestedBy (shown c m) (stepBy (shown c m) (keyAt j)) spent r ⌝ }
-{
-    let issued = m.issued;
-    let mut less = spent;
-    if 49 <= j / 64 {
-        less[49] = still_spent(less[49], issued, j % 64);
-        return less;
-    }
-    let k = action_at(j);
-    if issued <= k {
-        return less;
-    }
-    let acts = m.acts;
-    let e = acts[k];
-    let i = e.instr;
-    if rules::kind_of(i) != 6 {
-        return less;
-    }
-    let gone = woken(c, acts, issued, e);
-    cleared(less, gone)
 }
 
 // Whether the entry is a write to location l that has its value.
@@ -488,7 +341,7 @@ fn first_fresh(word: u64, spent: &[u64; 50], j: usize, end: usize) -> usize
     let mut i = j;
     while i < end {
         if words::has(word, i % 64) {
-            if !is_spent(spent, i) {
+            if !spending::is_spent(spent, i) {
                 return i;
             }
         }
@@ -509,7 +362,7 @@ fn word_end(j: usize, to: usize) -> usize
     end
 }
 
-// The first position from `at` on whose step is accepted and not spent, or `to` where there is none before it.
+// The first position from `at` on whose step is accepted and neither spent nor needless, or `to` where there is none before it.
 pub fn next_step(c: Case, m: Machine, spent: &[u64; 50], at: usize, to: usize) -> usize
     requires { ⌜ Valid c m × (at ≤ to) × (to ≤ 3200) × (length (now spent) ≡ 50) ⌝ }
     ensures { λ r. ⌜ NextAt c (shown c m) (now (spent .entry)) at to r ⌝ }
@@ -529,7 +382,8 @@ pub fn next_step(c: Case, m: Machine, spent: &[u64; 50], at: usize, to: usize) -
             issued,
             j / 64,
         );
-        let r = first_fresh(word, spent, j, end);
+        let left = needless::unechoed(c, acts, issued, spent, word, j / 64);
+        let r = first_fresh(left, spent, j, end);
         if r < end {
             return r;
         }
@@ -585,10 +439,61 @@ fn issuer<'a>(
     4
 }
 
-// The position of an accepted sure step, with n steps to go, or 3200 where there is none.
-pub fn sure_step(c: Case, m: Machine, n: usize, ahead: bool) -> usize
+// Whether the entry of action k is a read of the set.
+fn read_in(e: Entry, inner: u64, k: usize) -> bool
+    ensures { λ r. ⌜ ((c : TheCase) → r ≡ (reading (kindOf (shownEntry c e)) && inSet inner k)) ⌝ }
+{
+    let i = e.instr;
+    let q = rules::kind_of(i);
+    let h = words::has(inner, k);
+    (q == 1) & h
+}
+
+// The least number of the set, or 64.
+fn lowest(x: u64) -> usize
+    ensures { λ r. ⌜ (r < 64 → inSet x r ≡ true) ⌝ }
+{
+    let mut e: usize = 0;
+    while e < 64 {
+        if words::has(x, e) {
+            return e;
+        }
+        e += 1;
+    }
+    64
+}
+
+// The position of the commit of a dead read from its least source, or 3200 where none is accepted.
+fn first_dead<'a>(
+    c: Case,
+    names: &'a [u8; 32],
+    rows: &'a [u64; 448],
+    acts: [Entry; 48],
+    issued: usize,
+) -> usize
+    requires { ⌜ (issued ≤ 48) × (length acts ≡ 48) × (length (now names) ≡ 32) × Entries issued acts ⌝ }
+    ensures { λ r. ⌜ ((s : State) → Acts c issued acts s → s .names ≡ namesOf c (now (names .entry)) → s .orders ≡ orderOf (now (rows .entry)) → r < 3200 → DeadAt c s r) ⌝ }
+{
+    let inner = needless::ignored(names, acts, issued);
+    let mut k: usize = 0;
+    while k < issued {
+        let a = acts[k];
+        if read_in(a, inner, k) {
+            let word = sources(c, rows, acts, issued, k);
+            let e = lowest(word);
+            if e < 64 {
+                return 64 * k + e;
+            }
+        }
+        k += 1;
+    }
+    3200
+}
+
+// The position of an accepted step that may be taken alone, with n steps to go: a sure one, any issue once the cut mark is set, or the commit of a dead read; 3200 where none was found.
+pub fn sure_step(c: Case, m: Machine, n: usize, ahead: bool, marked: bool) -> usize
     requires { ⌜ Valid c m × (ahead ≡ isForward c) × (n ≤ 96) ⌝ }
-    ensures { λ r. ⌜ SureAt c n (shown c m) r ⌝ }
+    ensures { λ r. ⌜ SureAt c marked n (shown c m) r ⌝ }
 {
     let acts = m.acts;
     let issued = m.issued;
@@ -596,13 +501,13 @@ pub fn sure_step(c: Case, m: Machine, n: usize, ahead: bool) -> usize
     if k < 48 {
         return 3072 + k;
     }
-    if ahead | (issued + n <= 48) {
+    if marked | (ahead | (issued + n <= 48)) {
         let p = issuer(c, &m.places, &m.names, acts, issued);
         if p < 4 {
             return 3136 + p;
         }
     }
-    3200
+    first_dead(c, &m.names, &m.rows, acts, issued)
 }
 
 // Whether every place counter is at its processor's count.
@@ -704,7 +609,7 @@ pub fn take(c: Case, m: Machine, j: usize) -> Machine
     if 49 <= j / 64 {
         return issuing::issue(c, m, j % 64);
     }
-    let k = action_at(j);
+    let k = spending::action_at(j);
     let e = m.acts[k];
     let p = words::wide(e.proc);
     let src = source_at(j);

@@ -26,7 +26,7 @@ use Rattle.machine.specs.Valid.{Valid}
 use Rattle.records.specs.Growth.{Filled, Joined}
 use Rattle.records.proofs.Growth.{iff-trans, in-second, filled-of}
 use Rattle.records.proofs.Closing.{listed, unlisted, filled-size, filled-more}
-use Rattle.choices.specs.Words.{spentBy}
+use Rattle.spending.specs.Words.{spentBy}
 use Rattle.searching.specs.declared.Tally.{Tally}
 use Rattle.searching.specs.Ready.{Ready}
 use Rattle.searching.specs.Searched.{Tells, Searched}

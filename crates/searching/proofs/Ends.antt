@@ -1,19 +1,20 @@
--- The ends of a search, what each makes of the buffer and the tally; and when a sure step is enough. Assumes nothing.
+-- The ends of a search, and what each makes of the buffer and the tally. Assumes nothing.
 use mathlib.Core.Path.{_≡_, refl, sym, _∙_, ap, subst}
 use mathlib.Core.Logic.{_⊎_, inl, inr}
 use mathlib.Core.Bool.{Bool, true, false, true≢false}
 use mathlib.Core.List.{List}
-use Prim.Native.Nat.{ℕ, suc}
+use Prim.Native.Nat.{ℕ, _≤_}
 use Rattle.cases.specs.declared.Case.{Case}
+use Rattle.runs.specs.Reachable.{Reachable}
 use Rattle.runs.specs.Wanted.{Wish}
 use Rattle.rules.specs.State.{State}
-use Rattle.rules.specs.Step.{Step, stepCode, after}
 use Rattle.rules.specs.Result.{finished, registers}
+use Rattle.rules.specs.Womm.{womm}
 use Rattle.sure.specs.Spent.{Spent}
-use Rattle.sure.specs.Sure.{Sized, sure}
+use Rattle.sure.specs.Futile.{leaves}
 use Rattle.sure.specs.Told.{Done, Question, outcome, cut, Told}
-use Rattle.sure.proofs.Search.{Known}
-use Rattle.sure.proofs.Sweep.{Tested, Sweep, runs, told-end, told-bound}
+use Rattle.sure.proofs.Futile.{told-futile}
+use Rattle.sure.proofs.Sweep.{told-end, told-bound}
 use Rattle.records.specs.Buffer.{Among, Held}
 use Rattle.records.specs.Growth.{Grown}
 use Rattle.records.specs.Insertion.{Insertion}
@@ -74,7 +75,8 @@ module _ (c : Case) (W : Wish) (s : State) (sp : Spent) where
             (told-bound c W s sp (Tells before y) (Holds before (y .count) true) (marks before (y .count) (y .cut)) f (marked before (y .count) (y .cut)) refl);
       }
 
--- a sure step, done with, is enough
-pub told-sure : (c : Case) (W : Wish) (Z : Sized c) (s : State) (sp : Spent) (K : Known c s) (n : ℕ) {now : Spent} {B X : Question → Type 0} → Sweep c W sp s n now B X → (t : Step) → stepCode c s t ≡ 0 → sure c (suc n) s t ≡ true
-    → Tested c W sp s n X t → Told c W sp s (suc n) B X
-told-sure c W Z s sp K n S t h p T = record { kept = S .kept; sound = S .sound; full = λ q d. T q (runs c W Z q .alone s t n (K .reached) h p d) }
+  -- no run finishes, and the cut is told or there is none: nothing is added
+  pub searched-left : (n : ℕ) → Reachable (womm c) s → s .count ≤ 48 → {before : List ℕ} {y : Tally} → leaves (y .cut) n s ≡ true → Held before (y .count) →
+      Searched c W sp s n before y before (record { count = y .count; cut = y .cut; full = false })
+  searched-left n R few {before} {y} h held =
+      record { filled = filled-none refl held; told = λ _. told-futile c W sp s R few n (Tells before y) (y .cut) (λ x. x) h }

@@ -14,8 +14,7 @@ use Rattle.rules.specs.Step.{stepCode}
 use Rattle.sure.specs.Spent.{Key, taking, issuing, stepBy, restful}
 use Rattle.sure.specs.Sure.{sureKind}
 use Rattle.sure.proofs.Commit.{the, can-take}
-use Rattle.choices.specs.Words.{keyIn, sortIn, opens}
-use Rattle.choices.specs.Choice.{keyAt, opensAt}
+use Rattle.spending.specs.Words.{keyIn, sortIn, opens, keyAt, opensAt}
 
 -- no sure commit is accepted
 abbrev pub NoSure : Case → State → Type 0
@@ -74,6 +73,6 @@ module _ (w e : ℕ) (l : e < 64) where
   bit-of : (64 * w + e) % 64 ≡ e
   bit-of = omega arith
 
-  pub at-position : (c : Case) (s : State) (now : Key → Bool) → (opensAt c s (64 * w + e) ≡ true → now (keyAt (64 * w + e)) ≡ true) → opens c s w e ≡ true → now (keyIn w e) ≡ true
-  at-position c s now = subst (λ (j : ℕ). (opens c s j ((64 * w + e) % 64) ≡ true → now (keyIn j ((64 * w + e) % 64)) ≡ true) → opens c s w e ≡ true → now (keyIn w e) ≡ true) (sym word-of)
-      (subst (λ (j : ℕ). (opens c s w j ≡ true → now (keyIn w j) ≡ true) → opens c s w e ≡ true → now (keyIn w e) ≡ true) (sym bit-of) (λ f. f))
+  pub at-position : (c : Case) (s : State) (P : Key → Type 0) → (opensAt c s (64 * w + e) ≡ true → P (keyAt (64 * w + e))) → opens c s w e ≡ true → P (keyIn w e)
+  at-position c s P = subst (λ (j : ℕ). (opens c s j ((64 * w + e) % 64) ≡ true → P (keyIn j ((64 * w + e) % 64))) → opens c s w e ≡ true → P (keyIn w e)) (sym word-of)
+      (subst (λ (j : ℕ). (opens c s w j ≡ true → P (keyIn w j)) → opens c s w e ≡ true → P (keyIn w e)) (sym bit-of) (λ f. f))

@@ -19,23 +19,26 @@ use Rattle.rules.specs.State.{State}
 use Rattle.rules.specs.Step.{Step, stepCode, after}
 use Rattle.rules.specs.Result.{finished}
 use Rattle.rules.specs.Womm.{womm}
-use Rattle.sure.specs.Sure.{Sized, sure}
+use Rattle.sure.specs.Sure.{Sized}
+use Rattle.sure.specs.Futile.{leaves}
+use Rattle.sure.specs.Marked.{Alone}
 use Rattle.sure.specs.Spent.{Spent, stepBy, Rested}
-use Rattle.sure.proofs.Search.{Known, known}
+use Rattle.sure.proofs.Known.{Known, known}
 use Rattle.sure.proofs.Sweep.{rested-after}
 use Rattle.machine.specs.declared.Machine.{Machine}
 use Rattle.machine.specs.Shown.{shown}
 use Rattle.machine.specs.Fit.{Fit}
 use Rattle.machine.specs.Valid.{Valid}
 use Rattle.records.specs.Buffer.{Held}
-use Rattle.choices.specs.Words.{spentBy}
-use Rattle.choices.specs.Choice.{keyAt, SureAt, Noted, RestedBy}
+use Rattle.spending.specs.Words.{spentBy, keyAt}
+use Rattle.spending.specs.Spending.{Noted, RestedBy}
+use Rattle.choices.specs.Choice.{SureAt}
 use Rattle.searching.specs.declared.Span.{Span}
 use Rattle.searching.specs.declared.Tally.{Tally}
 use Rattle.searching.specs.Positions.{Swept, Chosen}
 use Rattle.searching.specs.Ready.{Ready}
 use Rattle.searching.specs.Searched.{Searched}
-use Rattle.searching.proofs.Ends.{searched-bound}
+use Rattle.searching.proofs.Ends.{searched-bound, searched-left}
 use Rattle.searching.proofs.Opened.{opens-step}
 use Rattle.searching.proofs.Loop.{Sweeping, sweeping-start, sweeping-skip, sweeping-turn, sweeping-full, sweeping-sure, searched-spent, searched-quiet, searched-all}
 
@@ -80,14 +83,17 @@ module _ {c : Case} {m : Machine} {n : ℕ} {ahead : Bool} {asked : Asked} {spen
   pub return-bound : n ≡ 0 → finished c (shown c m) ≡ false → (r : Tally) → r ≡ record { count = tally .count; cut = true; full = false } → Searched c W (spentBy spent) (shown c m) n out tally out r
   return-bound z f r e = subst (Searched c W (spentBy spent) (shown c m) n out tally out) (sym e) (searched-bound c W (shown c m) (spentBy spent) n z f (R .held))
 
+  pub return-left : leaves (tally .cut) n (shown c m) ≡ true → (r : Tally) → r ≡ record { count = tally .count; cut = tally .cut; full = false } → Searched c W (spentBy spent) (shown c m) n out tally out r
+  return-left h r e = subst (Searched c W (spentBy spent) (shown c m) n out tally out) (sym e) (searched-left c W (shown c m) (spentBy spent) n (R .reached) (R .valid .issued) h (R .held))
+
   module _ (more : n ≡ 0 → ⊥) where
     one-more : suc (n - 1) ≡ n
     one-more = omega (arith, more)
 
     -- the loop over the positions of r, where a sure step stands at j
-    module _ (j : ℕ) (found : SureAt c n (shown c m) j) {r : Span} (swept : Swept c (shown c m) spent j r) where
-      sure-one : j < 3200 → sure c (suc (n - 1)) (shown c m) (stepAt c m j) ≡ true
-      sure-one l = subst (λ (k : ℕ). sure c k (shown c m) (stepAt c m j) ≡ true) (sym one-more) (found .found l .1)
+    module _ (j : ℕ) (found : SureAt c (tally .cut) n (shown c m) j) {r : Span} (swept : Swept c (shown c m) spent j r) where
+      sure-one : j < 3200 → Alone c (tally .cut) (suc (n - 1)) (shown c m) (stepAt c m j)
+      sure-one l = subst (λ (k : ℕ). Alone c (tally .cut) k (shown c m) (stepAt c m j)) (sym one-more) (found .found l .1)
 
       -- its invariant: a sure step is the first to be looked at
       abbrev pub Turns : ℕ → List ℕ → List ℕ → Tally → Type 0
@@ -153,7 +159,7 @@ module _ {c : Case} {m : Machine} {n : ℕ} {ahead : Bool} {asked : Asked} {spen
                   room : sum′ .full ≡ false → Searched c W (spentBy spent) (shown c m) (suc (n - 1)) out tally bytes′ sum′
                   room f =
                       let h : j < 3200 = ltb-true j 3200 (⊎-elim (λ e. absurd (true≢false (sym e ∙ f))) (λ e. e) (or-cases (sum′ .full) (ltb j 3200) off)) in
-                      let p = subst (λ (k : ℕ). sure c (suc (n - 1)) (shown c m) (stepAt c m k) ≡ true) (sym (at-sure h)) (sure-one h) in
+                      let p = subst (λ (k : ℕ). Alone c (tally .cut) (suc (n - 1)) (shown c m) (stepAt c m k)) (sym (at-sure h)) (sure-one h) in
                       sweeping-sure c W Z (shown c m) (spentBy spent) K (n - 1) (r .from) (r .to) (S .0) i loop-open rest after-step p f
 
       pub return-swept : finished c (shown c m) ≡ false → {at : ℕ} {now bytes : List ℕ} {sum : Tally} → Turns at now bytes sum → r .to ≤ at → Searched c W (spentBy spent) (shown c m) n out tally bytes sum

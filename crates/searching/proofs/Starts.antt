@@ -23,7 +23,7 @@ use Rattle.machine.specs.Shown.{shown}
 use Rattle.machine.specs.Valid.{Valid}
 use Rattle.records.specs.Buffer.{recordsIn}
 use Rattle.records.proofs.Buffer.{held-zeros}
-use Rattle.choices.specs.Words.{spentBy}
+use Rattle.spending.specs.Words.{spentBy}
 use Rattle.searching.specs.declared.Tally.{Tally}
 use Rattle.searching.specs.Ready.{Ready}
 use Rattle.searching.specs.Searched.{Tells, Searched}

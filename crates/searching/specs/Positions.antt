@@ -9,8 +9,8 @@ use Rattle.rules.specs.State.{State}
 use Rattle.rules.specs.Step.{stepCode}
 use Rattle.sure.specs.Quiet.{quiet}
 use Rattle.sure.specs.Spent.{taking, stepBy}
-use Rattle.choices.specs.Words.{spentBy}
-use Rattle.choices.specs.Choice.{keyAt, NextAt}
+use Rattle.spending.specs.Words.{spentBy, keyAt}
+use Rattle.choices.specs.Choice.{NextAt}
 use Rattle.searching.specs.declared.Span.{Span}
 
 -- Those of the sources of a quiet read.

@@ -15,7 +15,7 @@ use Rattle.machine.specs.declared.Machine.{Machine}
 use Rattle.machine.specs.Shown.{shown}
 use Rattle.machine.specs.Valid.{Valid}
 use Rattle.records.specs.Buffer.{Held}
-use Rattle.choices.specs.Words.{spentBy}
+use Rattle.spending.specs.Words.{spentBy}
 use Rattle.searching.specs.declared.Tally.{Tally}
 
 -- A machine that is reached, with at most 96 steps to go, clauses that can be asked, spent steps that are accepted there, and a buffer with room so far.

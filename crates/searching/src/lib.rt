@@ -12,7 +12,7 @@ ghost use Rattle.sure.specs.Spent.{Spent};
 ghost use Rattle.machine.specs.Shown.{shown};
 ghost use Rattle.machine.specs.Valid.{Valid};
 ghost use Rattle.records.specs.Buffer.{Held};
-ghost use Rattle.choices.specs.Words.{spentBy};
+ghost use Rattle.spending.specs.Words.{spentBy};
 ghost use Rattle.searching.specs.Positions.{Swept, Chosen};
 ghost use Rattle.searching.specs.Ready.{Ready};
 ghost use Rattle.searching.specs.Searched.{Searched};
@@ -36,7 +36,7 @@ fn positions(c: Case, m: Machine, spent: &[u64; 50], j: usize) -> Span
     ensures { λ r. ⌜ Swept c (shown c m) (now (spent .entry)) j r ⌝ }
 {
     if j < 3200 {
-        if choices::is_spent(spent, j) {
+        if spending::is_spent(spent, j) {
             return Span { from: j, to: j };
         }
         return Span { from: j, to: j + 1 };
@@ -94,7 +94,18 @@ fn cut_off(tally: Tally) -> Tally
     }
 }
 
-// Adds the outcomes of m within n steps that meet the clauses: a sure step alone; else a quiet read with each of its sources; else every step. What is spent is left out.
+// A machine from which no run finishes and none that is cut is left to tell.
+fn leave_off(tally: Tally) -> Tally
+    ensures { λ r. ⌜ r ≡ record { count = tally .count; cut = tally .cut; full = false } ⌝ }
+{
+    Tally {
+        count: tally.count,
+        cut: tally.cut,
+        full: false,
+    }
+}
+
+// Adds the outcomes of m within n steps that meet the clauses: a sure step alone, and any issue once a run was cut; else a quiet read with each of its sources; else every step. What is spent is left out.
 pub fn explore(
     c: Case,
     m: Machine,
@@ -115,7 +126,10 @@ pub fn explore(
     if n == 0 {
         return cut_off(tally);
     }
-    let j = choices::sure_step(c, m, n, ahead);
+    if leaving::leave(c, m, n, tally.cut) {
+        return leave_off(tally);
+    }
+    let j = choices::sure_step(c, m, n, ahead, tally.cut);
     let span = positions(c, m, &spent, j);
     let to = span.to;
     let mut at = span.from;
@@ -124,7 +138,7 @@ pub fn explore(
     while at < to {
         let i = choose(c, m, &now, at, to, j);
         if i < to {
-            let calm = choices::rest(c, m, now, i);
+            let calm = spending::rest(c, m, now, i);
             sum = explore(
                 c,
                 choices::take(c, m, i),
@@ -138,7 +152,7 @@ pub fn explore(
             if sum.full | (j < 3200) {
                 return sum;
             }
-            now = choices::note(now, i);
+            now = spending::note(now, i);
         }
         at = i + 1;
     }

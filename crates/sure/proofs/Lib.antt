@@ -14,6 +14,16 @@ pub mod Whole
 pub mod Quiet
 pub mod Firm
 pub mod Spent
+pub mod Equal
+pub mod Known
+pub mod Veiled
+pub mod Revalued
+pub mod Dead
 pub mod Search
 pub mod Sweep
 pub mod Moves
+pub mod Marked
+pub mod Ahead
+pub mod Wide
+pub mod Least
+pub mod Futile

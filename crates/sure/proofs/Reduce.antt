@@ -46,6 +46,24 @@ module _ (c : Case) where
   pub open-to : (n : ℕ) (s : State) → CutFrom (womm c) s n → Open c s n
   open-to n s k = subst (Open c s) (k .exact) (open-walk (walk (womm c) (k .schedule) s (k .end) (k .leads)) (k .undone))
 
+-- a first step
+pub record Next (c : Case) (P : State → ℕ → Type 0) (s : State) (n : ℕ) : Type 0 where
+  pub step : Step
+  pub fits : stepCode c s step ≡ 0
+  pub then′ : P (after c s step) n
+
+module _ (c : Case) where
+  pub done-next : {s : State} {n : ℕ} {r : List ℕ} → finished c s ≡ false → Done c s (suc n) r → Next c (λ x m. Done c x m r) s n
+  done-next f (Done.now g e) = absurd (false≢true (sym f ∙ g))
+  done-next f (Done.later t h d) = record { step = t; fits = h; then′ = d }
+
+  pub open-next : {s : State} {n : ℕ} → finished c s ≡ false → Open c s (suc n) → Next c (Open c) s n
+  open-next f (Open.later t h d) = record { step = t; fits = h; then′ = d }
+
+  -- where a step is accepted, the state is not finished
+  pub unfinished : (s : State) (t : Step) → stepCode c s t ≡ 0 → finished c s ≡ false
+  unfinished s t h = ⊎-elim (λ f. absurd (finished-still c s f t h)) (λ f. f) (decide (finished c s))
+
 -- `Good n s` is what is known of a state with n steps to go, `Sure s t` that t may be taken alone, `Alike` of two states that nothing tells apart.
 module _ (c : Case) (Good : ℕ → State → Type 0) (Sure : State → Step → Type 0) (Alike : State → State → Type 0) where
   -- u, taken at s in place of the sure step t, can be taken after it
@@ -65,12 +83,9 @@ module _ (c : Case) (Good : ℕ → State → Type 0) (Sure : State → Step →
     pub outcomes : (a b : State) (n : ℕ) (r : List ℕ) → Alike a b → Done c a n r → Done c b n r
     pub cuts : (a b : State) (n : ℕ) → Alike a b → Open c a n → Open c b n
 
-  unfinished : (s : State) (t : Step) → stepCode c s t ≡ 0 → finished c s ≡ false
-  unfinished s t h = ⊎-elim (λ f. absurd (finished-still c s f t h)) (λ f. f) (decide (finished c s))
-
   pub diamond-last : (s : State) (t u : Step) → ((v : State) (w : Step) → Sure v w → stepCode c v w ≡ 0) → Diamond s t u
       → (finished c (after c s u) ≡ false) × (finished c (after c s t) ≡ false)
-  diamond-last s t u taken d = (unfinished (after c s u) t (taken (after c s u) t (d .still)), unfinished (after c s t) (d .other) (d .fits))
+  diamond-last s t u taken d = (unfinished c (after c s u) t (taken (after c s u) t (d .still)), unfinished c (after c s t) (d .other) (d .fits))
 
   module _ (law : Laws) where
     pub done-sure : (n : ℕ) (s : State) (t : Step) (r : List ℕ) → Good (suc n) s → Sure s t → Done c s (suc n) r → Done c (after c s t) n r

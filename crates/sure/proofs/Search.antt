@@ -1,56 +1,35 @@
 -- What a search that leaves out spent steps must try. Assumes nothing.
-use mathlib.Core.Path.{_≡_, refl, sym, _∙_}
+use mathlib.Core.Path.{_≡_}
 use mathlib.Core.Logic.{_⊎_, inl, inr, ⊎-elim}
 use mathlib.Core.Bool.{true, false, false≢true}
 use mathlib.Core.List.{List}
 use Prim.Native.Nat.{ℕ, zero, suc}
 use Rattle.cases.specs.declared.Case.{Case}
-use Rattle.runs.specs.Reachable.{Reachable}
-use Rattle.runs.proofs.Walk.{stop, go}
-use Rattle.runs.proofs.Always.{always-after}
 use Rattle.rules.specs.Result.{finished, registers}
-use Rattle.rules.specs.State.{State, initial}
+use Rattle.rules.specs.State.{State}
 use Rattle.rules.specs.Step.{after, stepCode, commit, Step}
-use Rattle.rules.specs.Womm.{womm}
 use Rattle.rules.proofs.Accepted.{finished-still}
+use Rattle.sure.specs.Dead.{Lone}
 use Rattle.sure.specs.Quiet.{quiet}
-use Rattle.sure.specs.Sure.{Sized, sure}
+use Rattle.sure.specs.Sure.{Sized}
 use Rattle.sure.specs.Spent.{wakes, Key, stepBy, Spent, fresh, Rested, Through, Else}
 use Rattle.sure.specs.Told.{Done, Open}
+use Rattle.sure.proofs.Dead.{done-dead, open-dead}
 use Rattle.sure.proofs.Good.{Good}
+use Rattle.sure.proofs.Known.{Known}
 use Rattle.sure.proofs.Quiet.{Taken, done-read, open-read}
 use Rattle.sure.proofs.Moves.{Alike}
-use Rattle.sure.proofs.Whole.{Reached, reached, reached-initial, done-alone, open-alone}
-use Rattle.sure.proofs.Firm.{Firm, firm-step, firm-initial}
+use Rattle.sure.proofs.Reduce.{Next, done-next, open-next}
+use Rattle.sure.proofs.Whole.{done-alone, open-alone}
 use Rattle.sure.proofs.Spent.{to-front}
 use Rattle.sure.proofs.Whole
-
--- what is known of each reachable state
-pub record Known (c : Case) (s : State) : Type 0 where
-  pub reached : Reached c s
-  pub firm : Firm s
-
-known-after : (c : Case) (s : State) (t : Step) → Known c s → stepCode c s t ≡ 0 → Known c (after c s t)
-known-after c s t K h = record { reached = reached c (go h (stop refl)) (K .reached); firm = firm-step c s (K .reached .good) (K .firm) t h }
-
-known-initial : (c : Case) → Known c (initial c)
-known-initial c = record { reached = reached-initial c; firm = firm-initial c }
-
-pub known : {c : Case} {s : State} → Reachable (womm c) s → Known c s
-known {c} {s} r = always-after (womm c) (Known c) (λ s t h K. known-after c s t K h) (known-initial c) (r .schedule) s (r .leads)
-
--- a first step
-pub record Next (c : Case) (P : State → ℕ → Type 0) (s : State) (n : ℕ) : Type 0 where
-  pub step : Step
-  pub fits : stepCode c s step ≡ 0
-  pub then′ : P (after c s step) n
 
 -- the laws of runs: `P s n`, there is a run of the wanted sort from s with n steps to go
 pub record Runs (c : Case) (P : State → ℕ → Type 0) : Type 0 where
   pub later : (s : State) (t : Step) (n : ℕ) → stepCode c s t ≡ 0 → P (after c s t) n → P s (suc n)
   pub alike : (a b : State) (n : ℕ) → Alike a b → P a n → P b n
   pub next : (s : State) (n : ℕ) → finished c s ≡ false → P s (suc n) → Next c P s n
-  pub alone : (s : State) (t : Step) (n : ℕ) → Reached c s → stepCode c s t ≡ 0 → sure c (suc n) s t ≡ true → P s (suc n) → P (after c s t) n
+  pub alone : (s : State) (t : Step) (n : ℕ) → Known c s → stepCode c s t ≡ 0 → Lone c (suc n) s t → P s (suc n) → P (after c s t) n
   pub reads : (s : State) (p k e n : ℕ) → Good s → stepCode c s (commit p k e) ≡ 0 → quiet c s k ≡ true → P s (suc n) → Taken c (λ x. P x n) s p k
 
 module _ (c : Case) (Z : Sized c) where
@@ -59,27 +38,22 @@ module _ (c : Case) (Z : Sized c) where
       record {
         later = λ s t n h d. Done.later t h d;
         alike = λ a b n e d. Whole.laws c .outcomes a b n r e d;
-        next = next;
-        alone = λ s t n K h q d. done-alone c Z s K t h n q r d;
+        next = λ s n f d. done-next c f d;
+        alone = λ s t n K h q d.
+            ⊎-elim (λ z. done-alone c Z s (K .reached) t h n z r d) (λ z. done-dead c s K t h z n r d) q;
         reads = λ s p k e n G h q d. done-read c s p k e G h q n r d;
       }
-    where
-      next : (s : State) (n : ℕ) → finished c s ≡ false → Done c s (suc n) r → Next c (λ x m. Done c x m r) s n
-      next s n f (Done.now g e) = absurd (false≢true (sym f ∙ g))
-      next s n f (Done.later t h d) = record { step = t; fits = h; then′ = d }
 
   pub open-runs : Runs c (Open c)
   open-runs =
       record {
         later = λ s t n h d. Open.later t h d;
         alike = λ a b n e d. Whole.laws c .cuts a b n e d;
-        next = next;
-        alone = λ s t n K h q d. open-alone c Z s K t h n q d;
+        next = λ s n f d. open-next c f d;
+        alone = λ s t n K h q d.
+            ⊎-elim (λ z. open-alone c Z s (K .reached) t h n z d) (λ z. open-dead c s K t h z n d) q;
         reads = λ s p k e n G h q d. open-read c s p k e G h q n d;
       }
-    where
-      next : (s : State) (n : ℕ) → finished c s ≡ false → Open c s (suc n) → Next c (Open c) s n
-      next s n f (Open.later t h d) = record { step = t; fits = h; then′ = d }
 
 -- runs of which something holds besides
 pub runs-and : (c : Case) {P : State → ℕ → Type 0} (A : Type 0) → Runs c P → Runs c (λ s n. P s n × A)

@@ -18,14 +18,17 @@ use Rattle.rules.specs.Step.{issue, Step, after, stepCode}
 use Rattle.rules.specs.Womm.{womm}
 use Rattle.rules.specs.Kinds.{reading, acquiring}
 use Rattle.rules.proofs.Accepted.{can-issue}
+use Rattle.sure.specs.Equal.{Needless}
 use Rattle.sure.specs.Quiet.{quiet}
-use Rattle.sure.specs.Sure.{Sized, sure, sureKind}
+use Rattle.sure.specs.Sure.{Sized, sureKind}
 use Rattle.sure.specs.Spent.{stepBy, taking, Spent, issuing, Key, fresh, restful, Resting, Rested, Else}
 use Rattle.sure.specs.Told.{Done, Open, Question, outcome, cut, Run, Told}
+use Rattle.sure.proofs.Equal.{same-after}
 use Rattle.sure.proofs.Good.{Good}
 use Rattle.sure.proofs.Reduce.{done-from, done-to, open-from, open-to}
 use Rattle.sure.proofs.Spent.{keyed, resting, rested-step}
-use Rattle.sure.proofs.Search.{Known, Calm, Runs, Tried, done-runs, open-runs, tried-branch, covers-start, runs-and, at-end, no-more, unspent}
+use Rattle.sure.proofs.Known.{Known}
+use Rattle.sure.proofs.Search.{Calm, Runs, Tried, done-runs, open-runs, tried-branch, covers-start, runs-and, at-end, no-more, unspent}
 use Rattle.sure.proofs.Commit.{CanTake, Commit, source-zero, sees-take, self, the, can-take}
 
 -- the source of an accepted read is an item
@@ -140,6 +143,14 @@ module _ (c : Case) (W : Wish) (Z : Sized c) (s : State) (sp : Spent) (K : Known
     settle : (a : Key) → stepCode c s (stepBy s a) ≡ 0 → (now a ≡ true) ⊎ Tested c W sp s n X (stepBy s a) → Tested c W sp s n X (stepBy s a)
     settle a h w = ⊎-elim (λ e. S .covered a e h) (λ T. T) w
 
+    -- a step that does what a spent one does is done with
+    pub tested-needless : (a : Key) → stepCode c s (stepBy s a) ≡ 0 → Needless c s now a → Tested c W sp s n X (stepBy s a)
+    tested-needless (taking k e) h (inl x) = S .covered (taking k e) x h
+    tested-needless (taking k e) h (inr x) =
+        λ q d. S .covered (taking k (x .source)) (x .rests) (x .fits) q
+        (subst (λ (v : State). Run c W q v n) (same-after c s (s .actions k .proc) k e (x .source) (x .same)) d)
+    tested-needless (issuing p) h x = S .covered (issuing p) x h
+
     -- every accepted step is spent by now or done with
     pub told-all : finished c s ≡ false → ((a : Key) → stepCode c s (stepBy s a) ≡ 0 → (now a ≡ true) ⊎ Tested c W sp s n X (stepBy s a))
         → Told c W sp s (suc n) B X
@@ -154,23 +165,23 @@ module _ (c : Case) (W : Wish) (Z : Sized c) (s : State) (sp : Spent) (K : Known
               settle (k .key) h (T (k .key) h) q (subst (λ (u : Step). Run c W q (after c s u) n) (k .names) (x .then′));
         }
 
-    -- the same by sorts: no sure commit is accepted, and each accepted read, acquire and issue is spent by now
+    -- the same by sorts: no sure commit is accepted, and each accepted read, acquire and issue is spent by now or does what a spent one does
     pub told-rest : finished c s ≡ false
         → ((k : ℕ) → k < s .count → sureKind (kindOf (s .actions k)) ≡ true → stepCode c s (stepBy s (taking k 0)) ≡ 0 → ⊥)
-        → ((k e : ℕ) → k < s .count → e < 8 + s .count → reading (kindOf (s .actions k)) ≡ true → stepCode c s (stepBy s (taking k e)) ≡ 0 → now (taking k e) ≡ true)
-        → ((k : ℕ) → k < s .count → acquiring (kindOf (s .actions k)) ≡ true → stepCode c s (stepBy s (taking k 0)) ≡ 0 → now (taking k 0) ≡ true)
-        → ((p : ℕ) → p < c .procs → stepCode c s (issue p) ≡ 0 → now (issuing p) ≡ true)
+        → ((k e : ℕ) → k < s .count → e < 8 + s .count → reading (kindOf (s .actions k)) ≡ true → stepCode c s (stepBy s (taking k e)) ≡ 0 → Needless c s now (taking k e))
+        → ((k : ℕ) → k < s .count → acquiring (kindOf (s .actions k)) ≡ true → stepCode c s (stepBy s (taking k 0)) ≡ 0 → Needless c s now (taking k 0))
+        → ((p : ℕ) → p < c .procs → stepCode c s (issue p) ≡ 0 → Needless c s now (issuing p))
         → Told c W sp s (suc n) B X
     told-rest f no-sure read-noted acquire-noted issue-noted = told-all f each
       where
         at : (k e : ℕ) → stepCode c s (stepBy s (taking k e)) ≡ 0 → CanTake c s (the (s .actions k .proc) k e)
         at k e h = can-take c s (the (s .actions k .proc) k e) h
 
-        plain : (k e : ℕ) → stepCode c s (stepBy s (taking k e)) ≡ 0 → reading (kindOf (s .actions k)) ≡ false → now (taking k e) ≡ true
+        plain : (k e : ℕ) → stepCode c s (stepBy s (taking k e)) ≡ 0 → reading (kindOf (s .actions k)) ≡ false → Needless c s now (taking k e)
         plain k e h r =
             let z : e ≡ 0 = source-zero c s (the (s .actions k .proc) k e) (at k e h) r in
             let h₀ = subst (λ (i : ℕ). stepCode c s (stepBy s (taking k i)) ≡ 0) z h in
-            subst (λ (i : ℕ). now (taking k i) ≡ true) (sym z)
+            subst (λ (i : ℕ). Needless c s now (taking k i)) (sym z)
             (⊎-elim (λ a. acquire-noted k (at k e h .there) a h₀)
             (λ a. absurd (no-sure k (at k e h .there) (ap₂ (λ (x y : Bool). not (x || y)) r a) h₀))
             (decide (acquiring (kindOf (s .actions k)))))
@@ -178,8 +189,8 @@ module _ (c : Case) (W : Wish) (Z : Sized c) (s : State) (sp : Spent) (K : Known
         each : (a : Key) → stepCode c s (stepBy s a) ≡ 0 → (now a ≡ true) ⊎ Tested c W sp s n X (stepBy s a)
         each (taking k e) h =
             let there : reading (kindOf (s .actions k)) ≡ true → e < 8 + s .count = λ r. source-there c s (K .reached .good) (the (s .actions k .proc) k e) (at k e h) r in
-            inl (⊎-elim (λ r. read-noted k e (at k e h .there) (there r) r h) (plain k e h) (decide (reading (kindOf (s .actions k)))))
-        each (issuing p) h = inl (issue-noted p (can-issue c s p h .proc) h)
+            inr (tested-needless (taking k e) h (⊎-elim (λ r. read-noted k e (at k e h .there) (there r) r h) (plain k e h) (decide (reading (kindOf (s .actions k))))))
+        each (issuing p) h = inr (tested-needless (issuing p) h (issue-noted p (can-issue c s p h .proc) h))
 
     -- the same of the sources of a quiet read, and it is enough
     pub told-quiet : (k e : ℕ) → stepCode c s (stepBy s (taking k e)) ≡ 0 → quiet c s k ≡ true

@@ -1,4 +1,11 @@
 pub mod Sure
 pub mod Quiet
 pub mod Spent
+pub mod Equal
+pub mod Dead
 pub mod Told
+pub mod Marked
+pub mod Ahead
+pub mod Wide
+pub mod Least
+pub mod Futile

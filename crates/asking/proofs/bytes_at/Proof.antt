@@ -14,7 +14,7 @@ use Rattle.asking.proofs.bytes_at.Statement.{statement}
 use Rattle.asking.proofs.bytes_at.Tie as tie
 use Rattle.asking.proofs.bytes_at.Reads as reads
 use Rattle.asking.proofs.bytes_at.Lts as lts
-use Rattle.choices.proofs.action_at.Reads as action-at-reads
+use Rattle.spending.proofs.action_at.Reads as action-at-reads
 use Rattle.choices.proofs.source_at.Reads as source-at-reads
 
 -- src/lib.rt:154:19
@@ -34,8 +34,8 @@ mul-e : tie.Need-mul-e
 mul-e c =
     let b = c .before .before in
     let a = b .args in
-    let l = there-at (a .c) (shown (a .c) (a .t2)) (a .j) (c .action-at .result) (c .before .if1 .left) (c .action-at .ensures) (b .pre .2) in
-    let k : c .action-at .result < 48 = omega (arith, b .pre .0 .issued) in
+    let l = there-at (a .c) (shown (a .c) (a .t2)) (a .j) (c .action-at .result) (c .before .if1 .left) (c .action-at .ensures) (b .pre .fits) in
+    let k : c .action-at .result < 48 = omega (arith, b .pre .valid .issued) in
     search needs
 
 -- src/lib.rt:160:13
@@ -43,8 +43,8 @@ element-copy-out-e : tie.Need-element-copy-out-e
 element-copy-out-e c =
     let b = c .before .before in
     let a = b .args in
-    let l = there-at (a .c) (shown (a .c) (a .t2)) (a .j) (c .action-at .result) (c .before .if1 .left) (c .action-at .ensures) (b .pre .2) in
-    omega (arith, b .pre .0 .issued)
+    let l = there-at (a .c) (shown (a .c) (a .t2)) (a .j) (c .action-at .result) (c .before .if1 .left) (c .action-at .ensures) (b .pre .fits) in
+    omega (arith, b .pre .valid .issued)
 
 -- src/lib.rt:164:17
 cast-t14 : tie.Need-cast-t14
@@ -52,8 +52,8 @@ cast-t14 c =
     let b = c .before .before .before in
     let a = b .args in
     let u = c .before .action-at in
-    let l = there-at (a .c) (shown (a .c) (a .t2)) (a .j) (u .result) (c .before .before .if1 .left) (u .ensures) (b .pre .2) in
-    let k : u .result < 48 = omega (arith, b .pre .0 .issued) in
+    let l = there-at (a .c) (shown (a .c) (a .t2)) (a .j) (u .result) (c .before .before .if1 .left) (u .ensures) (b .pre .fits) in
+    let k : u .result < 48 = omega (arith, b .pre .valid .issued) in
     search needs
 
 -- src/lib.rt:165:17
@@ -75,7 +75,7 @@ returns-2 c =
     let s = shown (a .c) (a .t2) in
     let u = c .before .before .action-at in
     let h = c .before .before .before .if1 .left in
-    let l = there-at (a .c) s (a .j) (u .result) h (u .ensures) (b .pre .2) in
+    let l = there-at (a .c) s (a .j) (u .result) h (u .ensures) (b .pre .fits) in
     ap stepBytes (sym (commit-at (a .c) s (a .j) _ (u .result) (c .source-at .result) h (u .ensures) (c .source-at .ensures) (sym (ap (λ (x : Action). x .proc) (action-is (a .c) (a .t2 .issued) (a .t2 .acts) s (record { count = refl; actions = refl }) (u .result) l)))))
 
 pub bytes-at-spec : {M : Type 1} → statement M

@@ -24,14 +24,14 @@ abbrev μ-loop : tie.MeasureT-loop
 
 -- src/lib.rt:82:5
 loop-holds : tie.Need-loop-holds Inv-loop μ-loop
-loop-holds c = let a = c .args in skipped-start (a .c) (wanted (a .asked)) (shown (a .c) (a .m)) (a .n - 1) (a .from) (a .to) (c .pre .2)
+loop-holds c = let a = c .args in skipped-start (a .c) (wanted (a .asked)) (shown (a .c) (a .m)) (a .n - 1) (a .from) (a .to) (c .pre .rising)
 
 -- src/lib.rt:83:13
 next-step-requires : tie.Need-next-step-requires Inv-loop μ-loop
 next-step-requires c κs =
     let in-loop = c .before in
     let start = in-loop .before .before in
-    (start .pre .0 .valid, omega (arith, in-loop .loop-test .taken), start .pre .3, refl)
+    (start .pre .standing .valid, omega (arith, in-loop .loop-test .taken), start .pre .upto, refl)
 
 -- src/lib.rt:85:37
 take-requires : tie.Need-take-requires Inv-loop μ-loop
@@ -39,11 +39,11 @@ take-requires c κs =
     let at-next = c .before in
     let start = at-next .before .before .before .before in
     let a = start .args in
-    (start .pre .0 .valid, omega (arith, c .if1 .taken, start .pre .3), opens-step (a .c) (shown (a .c) (a .m)) _ _ (at-next .next-step .ensures .found (c .if1 .taken) .0))
+    (start .pre .standing .valid, omega (arith, c .if1 .taken, start .pre .upto), opens-step (a .c) (shown (a .c) (a .m)) _ _ (at-next .next-step .ensures .found (c .if1 .taken) .0))
 
 -- src/lib.rt:85:61
 sub-within-reach : tie.Need-sub-within-reach Inv-loop μ-loop
-sub-within-reach c = let start = c .before .before .before .before .before .before in omega (arith, start .pre .1)
+sub-within-reach c = let start = c .before .before .before .before .before .before in omega (arith, start .pre .more)
 
 -- src/lib.rt:85:17
 within-reach-requires : tie.Need-within-reach-requires Inv-loop μ-loop
@@ -51,7 +51,7 @@ within-reach-requires c κs =
     let at-next = c .before .before in
     let start = at-next .before .before .before .before in
     let a = start .args in
-    standing-next (start .pre .0) (stepAt (shown (a .c) (a .m)) (at-next .next-step .result)) (opens-step (a .c) (shown (a .c) (a .m)) _ _ (at-next .next-step .ensures .found (c .before .if1 .taken) .0)) (c .take .ensures)
+    standing-next (start .pre .standing) (stepAt (shown (a .c) (a .m)) (at-next .next-step .result)) (opens-step (a .c) (shown (a .c) (a .m)) _ _ (at-next .next-step .ensures .found (c .before .if1 .taken) .0)) (c .take .ensures)
 
 -- src/lib.rt:87:17
 returns : tie.Need-returns Inv-loop μ-loop
@@ -68,7 +68,7 @@ add-at : tie.Need-add-at Inv-loop μ-loop
 add-at c =
     let at-next = c .before in
     let start = at-next .before .before .before .before in
-    omega (arith, at-next .next-step .ensures .upto, start .pre .3)
+    omega (arith, at-next .next-step .ensures .upto, start .pre .upto)
 
 -- src/lib.rt:82:5
 loop-less : tie.Need-loop-less Inv-loop μ-loop
@@ -92,7 +92,7 @@ returns-2 c =
     let at-loop = c .before in
     let start = at-loop .before in
     let a = start .args in
-    first-none (a .c) (wanted (a .asked)) (shown (a .c) (a .m)) (a .n - 1) (start .pre .2) (at-loop .loop .inv) (c .loop-test .left)
+    first-none (a .c) (wanted (a .asked)) (shown (a .c) (a .m)) (a .n - 1) (start .pre .rising) (at-loop .loop .inv) (c .loop-test .left)
 
 pub first-in-reach-spec : {M : Type 1} → statement M
 first-in-reach-spec =

@@ -25,14 +25,14 @@ abbrev μ-loop : tie.MeasureT-loop
 
 -- src/lib.rt:185:9
 start-requires : tie.Need-start-requires Inv-loop μ-loop
-start-requires c κs = c .before .pre .0
+start-requires c κs = c .before .pre .fit
 
 -- src/lib.rt:188:5
 loop-holds : tie.Need-loop-holds Inv-loop μ-loop
 loop-holds c =
     let start = c .before .before in
     let a = start .args in
-    descending-start (a .c) (wanted (a .asked)) (a .n) (start .pre .2) (c .start .ensures .0) (c .start .ensures .1) (start .pre .4) (start .pre .5)
+    descending-start (a .c) (wanted (a .asked)) (a .n) (start .pre .few) (c .start .ensures .0) (c .start .ensures .1) (start .pre .held) (start .pre .clear)
 
 -- src/lib.rt:189:13
 finished-requires : tie.Need-finished-requires Inv-loop μ-loop
@@ -44,7 +44,7 @@ same-length c =
     let at-loop = c .before .before .before in
     let start = at-loop .before .before .before in
     let a = start .args in
-    laid-length (a .c) (wanted (a .asked)) (a .n) (start .pre .2) (at-loop .loop .inv) ∙ sym (ap length (start .pre .5))
+    laid-length (a .c) (wanted (a .asked)) (a .n) (start .pre .few) (at-loop .loop .inv) ∙ sym (ap length (start .pre .clear))
 
 -- src/lib.rt:191:13
 returns : tie.Need-returns Inv-loop μ-loop
@@ -53,7 +53,7 @@ returns c =
     let at-loop = at-finished .before .before in
     let start = at-loop .before .before .before in
     let a = start .args in
-    descended (a .c) (wanted (a .asked)) (a .n) (start .pre .2) (at-loop .loop .inv) (sym (at-finished .finished .ensures) ∙ c .if1 .taken)
+    descended (a .c) (wanted (a .asked)) (a .n) (start .pre .few) (at-loop .loop .inv) (sym (at-finished .finished .ensures) ∙ c .if1 .taken)
 
 -- src/lib.rt:193:13
 lowest-step-requires : tie.Need-lowest-step-requires Inv-loop μ-loop
@@ -63,14 +63,19 @@ lowest-step-requires c κs =
     let at-loop = in-loop .before in
     let start = at-loop .before .before .before in
     let D = at-loop .loop .inv in
-    (record { valid = D .valid; reached = D .reached; forwards = start .pre .1; few = omega (arith, D .count, start .pre .2); asks = start .pre .3 }, omega (arith, in-loop .loop-test .taken), sym (at-finished .finished .ensures) ∙ c .if1 .left, D .held)
+    record {
+      standing = record { valid = D .valid; reached = D .reached; forwards = start .pre .forwards; few = omega (arith, D .count, start .pre .few); asks = start .pre .asks };
+      more = omega (arith, in-loop .loop-test .taken);
+      undone = sym (at-finished .finished .ensures) ∙ c .if1 .left;
+      held = D .held;
+    }
 
 -- src/lib.rt:194:27
 bytes-at-requires : tie.Need-bytes-at-requires Inv-loop μ-loop
 bytes-at-requires c κs =
     let at-step = c .before in
     let at-loop = at-step .before .before .before .before in
-    (at-loop .loop .inv .valid, at-step .lowest-step .ensures .small, at-step .lowest-step .ensures .fits)
+    record { valid = at-loop .loop .inv .valid; low = at-step .lowest-step .ensures .small; fits = at-step .lowest-step .ensures .fits }
 
 -- src/lib.rt:194:9
 put-step-requires : tie.Need-put-step-requires Inv-loop μ-loop
@@ -80,7 +85,7 @@ put-step-requires c κs =
     let start = at-loop .before .before .before in
     let a = start .args in
     let D = at-loop .loop .inv in
-    omega (arith, room-left (a .c) (wanted (a .asked)) (a .n) (start .pre .2) D (omega (arith, in-loop .loop-test .taken)), laid-length (a .c) (wanted (a .asked)) (a .n) (start .pre .2) D)
+    omega (arith, room-left (a .c) (wanted (a .asked)) (a .n) (start .pre .few) D (omega (arith, in-loop .loop-test .taken)), laid-length (a .c) (wanted (a .asked)) (a .n) (start .pre .few) D)
 
 -- src/lib.rt:195:9
 take-requires : tie.Need-take-requires Inv-loop μ-loop
@@ -104,7 +109,7 @@ add-at c =
     let at-loop = in-loop .before in
     let start = at-loop .before .before .before in
     let a = start .args in
-    let room = room-left (a .c) (wanted (a .asked)) (a .n) (start .pre .2) (at-loop .loop .inv) (omega (arith, in-loop .loop-test .taken)) in
+    let room = room-left (a .c) (wanted (a .asked)) (a .n) (start .pre .few) (at-loop .loop .inv) (omega (arith, in-loop .loop-test .taken)) in
     search needs
 
 -- src/lib.rt:188:5
@@ -126,7 +131,7 @@ loop-again c =
     let start = at-loop .before .before .before in
     let a = start .args in
     subst (Descending (a .c) (wanted (a .asked)) (a .n) (c .take .result) (at-loop .loop .left - 1) (at-loop .loop .at + 4)) (sym (at-put .put-step .ensures))
-    (descending-more (a .c) (wanted (a .asked)) (a .n) (start .pre .2) (at-loop .loop .inv) (omega (arith, in-loop .loop-test .taken)) (sym (at-finished .finished .ensures) ∙ at-step .before .if1 .left) (at-step .lowest-step .result) (at-step .lowest-step .ensures) (c .take .ensures) (at-bytes .bytes-at .ensures))
+    (descending-more (a .c) (wanted (a .asked)) (a .n) (start .pre .few) (at-loop .loop .inv) (omega (arith, in-loop .loop-test .taken)) (sym (at-finished .finished .ensures) ∙ at-step .before .if1 .left) (at-step .lowest-step .result) (at-step .lowest-step .ensures) (c .take .ensures) (at-bytes .bytes-at .ensures))
 
 -- src/lib.rt:181:1
 same-length-2 : tie.Need-same-length-2 Inv-loop μ-loop
@@ -134,7 +139,7 @@ same-length-2 c =
     let at-loop = c .before in
     let start = at-loop .before .before .before in
     let a = start .args in
-    laid-length (a .c) (wanted (a .asked)) (a .n) (start .pre .2) (at-loop .loop .inv) ∙ sym (ap length (start .pre .5))
+    laid-length (a .c) (wanted (a .asked)) (a .n) (start .pre .few) (at-loop .loop .inv) ∙ sym (ap length (start .pre .clear))
 
 -- src/lib.rt:181:1
 returns-2 : tie.Need-returns-2 Inv-loop μ-loop
@@ -143,7 +148,7 @@ returns-2 c =
     let start = at-loop .before .before .before in
     let a = start .args in
     let D = at-loop .loop .inv in
-    descended (a .c) (wanted (a .asked)) (a .n) (start .pre .2) D (at-last (a .c) (wanted (a .asked)) (a .n) (start .pre .2) D (c .loop-test .left))
+    descended (a .c) (wanted (a .asked)) (a .n) (start .pre .few) D (at-last (a .c) (wanted (a .asked)) (a .n) (start .pre .few) D (c .loop-test .left))
 
 pub lowest-spec : {M : Type 1} → statement M
 lowest-spec =

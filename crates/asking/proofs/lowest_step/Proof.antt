@@ -25,11 +25,11 @@ loop-holds c = let a = c .args in passed-start (a .c) (wanted (a .asked)) (shown
 
 -- src/lib.rt:135:13
 row-span-requires : tie.Need-row-span-requires Inv-loop μ-loop
-row-span-requires c κs = let start = c .before .before in (start .pre .0 .valid, start .pre .0 .reached, c .loop-test .taken)
+row-span-requires c κs = let start = c .before .before in record { valid = start .pre .standing .valid; reached = start .pre .standing .reached; low = c .loop-test .taken }
 
 -- src/lib.rt:137:13
 first-in-reach-requires : tie.Need-first-in-reach-requires Inv-loop μ-loop
-first-in-reach-requires c κs = let start = c .before .before .before in (start .pre .0, start .pre .1, c .row-span .ensures .rising, c .row-span .ensures .upto)
+first-in-reach-requires c κs = let start = c .before .before .before in record { standing = start .pre .standing; more = start .pre .more; rising = c .row-span .ensures .rising; upto = c .row-span .ensures .upto }
 
 -- src/lib.rt:139:13
 returns : tie.Need-returns Inv-loop μ-loop
@@ -39,7 +39,7 @@ returns c =
     let at-loop = at-row .before .before in
     let start = at-loop .before in
     let a = start .args in
-    lowest-here (a .c) (wanted (a .asked)) (shown (a .c) (a .m)) (a .n - 1) (at-loop .loop .inv) (at-row .row-span .ensures) (at-first .first-in-reach .result) (at-first .first-in-reach .ensures) (start .pre .0 .valid .issued) (c .if1 .taken)
+    lowest-here (a .c) (wanted (a .asked)) (shown (a .c) (a .m)) (a .n - 1) (at-loop .loop .inv) (at-row .row-span .ensures) (at-first .first-in-reach .result) (at-first .first-in-reach .ensures) (start .pre .standing .valid .issued) (c .if1 .taken)
 
 -- src/lib.rt:141:9
 add-i : tie.Need-add-i Inv-loop μ-loop
@@ -65,9 +65,9 @@ returns-2 c =
     let at-loop = c .before in
     let start = at-loop .before in
     let a = start .args in
-    let valid = start .pre .0 .valid in
-    let one : a .n ≡ suc (a .n - 1) = omega (arith, start .pre .1) in
-    absurd (passed-all (a .c) (wanted (a .asked)) (shown (a .c) (a .m)) (a .n - 1) (at-loop .loop .inv) (c .loop-test .left) (valid .issued) (valid .fit .procs) (start .pre .2) (subst (InReach (a .c) (wanted (a .asked)) (shown (a .c) (a .m))) one (start .pre .3)))
+    let valid = start .pre .standing .valid in
+    let one : a .n ≡ suc (a .n - 1) = omega (arith, start .pre .more) in
+    absurd (passed-all (a .c) (wanted (a .asked)) (shown (a .c) (a .m)) (a .n - 1) (at-loop .loop .inv) (c .loop-test .left) (valid .issued) (valid .fit .procs) (start .pre .undone) (subst (InReach (a .c) (wanted (a .asked)) (shown (a .c) (a .m))) one (start .pre .held)))
 
 pub lowest-step-spec : {M : Type 1} → statement M
 lowest-step-spec =

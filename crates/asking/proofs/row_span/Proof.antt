@@ -18,7 +18,7 @@ use Rattle.words.proofs.wide.Reads as wide-reads
 
 -- src/lib.rt:102:9
 returns : tie.Need-returns
-returns c = let a = c .before .args in subst (λ (i : ℕ). RowSpan (a .c) (shown (a .c) (a .t2)) i _) (sym (c .if1 .taken)) (row-issues (a .c) (shown (a .c) (a .t2)) (c .before .pre .0 .issued) (c .before .pre .0 .fit .procs))
+returns c = let a = c .before .args in subst (λ (i : ℕ). RowSpan (a .c) (shown (a .c) (a .t2)) i _) (sym (c .if1 .taken)) (row-issues (a .c) (shown (a .c) (a .t2)) (c .before .pre .valid .issued) (c .before .pre .valid .fit .procs))
 
 -- src/lib.rt:107:14
 sub-p : tie.Need-sub-p
@@ -38,7 +38,7 @@ returns-2 c =
     let p = (a .i - 1) / 48 in
     let at = action-at (a .c) (a .t2 .issued) (a .t2 .acts) s (record { count = refl; actions = refl }) k in
     subst (λ (i : ℕ). RowSpan (a .c) s i _) (row-of (a .i) (c .before .if1 .left))
-    (row-none (a .c) s (start .pre .0 .issued) p k (omega arith) (λ l own. absurd (omega (arith, l, c .if2 .taken))))
+    (row-none (a .c) s (start .pre .valid .issued) p k (omega arith) (λ l own. absurd (omega (arith, l, c .if2 .taken))))
 
 -- src/lib.rt:112:13
 mul-e : tie.Need-mul-e
@@ -62,7 +62,7 @@ returns-3 c =
     let p = (a .i - 1) / 48 in
     let at = action-at (a .c) (a .t2 .issued) (a .t2 .acts) s (record { count = refl; actions = refl }) k in
     subst (λ (i : ℕ). RowSpan (a .c) s i _) (row-of (a .i) (c .before .before .before .before .if1 .left))
-    (row-none (a .c) s (start .pre .0 .issued) p k (omega arith) (λ l own. c .if3 .taken (c .before .wide .ensures .0 ∙ sym (ap (λ (x : Action). x .proc) (at l)) ∙ own)))
+    (row-none (a .c) s (start .pre .valid .issued) p k (omega arith) (λ l own. c .if3 .taken (c .before .wide .ensures .0 ∙ sym (ap (λ (x : Action). x .proc) (at l)) ∙ own)))
 
 -- src/lib.rt:117:8
 kind-of-requires : tie.Need-kind-of-requires
@@ -94,7 +94,7 @@ returns-4 c =
     let p = (a .i - 1) / 48 in
     let at = action-at (a .c) (a .t2 .issued) (a .t2 .acts) s (record { count = refl; actions = refl }) k (at-here .if2 .left) in
     subst (λ (i : ℕ). RowSpan (a .c) s i (record { from = 64 * k; to = 64 * k + 64 })) (row-of (a .i) (at-here .before .if1 .left))
-    (row-read (a .c) s (start .pre .0 .issued) p k (omega arith) (ap (λ (x : Action). x .proc) at ∙ sym (at-wide .wide .ensures .0) ∙ at-own .if3 .left) (start .pre .1) (eq-eqb (kindOf (s .actions k)) 1 (ap kindOf at ∙ sym (at-kind .kind-of .ensures .0) ∙ c .if4 .taken)))
+    (row-read (a .c) s (start .pre .valid .issued) p k (omega arith) (ap (λ (x : Action). x .proc) at ∙ sym (at-wide .wide .ensures .0) ∙ at-own .if3 .left) (start .pre .reached) (eq-eqb (kindOf (s .actions k)) 1 (ap kindOf at ∙ sym (at-kind .kind-of .ensures .0) ∙ c .if4 .taken)))
 
 -- src/lib.rt:124:15
 add-t10 : tie.Need-add-t10
@@ -118,7 +118,7 @@ returns-5 c =
     let p = (a .i - 1) / 48 in
     let at = action-at (a .c) (a .t2 .issued) (a .t2 .acts) s (record { count = refl; actions = refl }) k (at-here .if2 .left) in
     subst (λ (i : ℕ). RowSpan (a .c) s i (record { from = 3072 + k; to = 3073 + k })) (row-of (a .i) (at-here .before .if1 .left))
-    (row-other (a .c) s (start .pre .0 .issued) p k (omega arith) (ap (λ (x : Action). x .proc) at ∙ sym (at-wide .wide .ensures .0) ∙ at-own .if3 .left) (ne-eqb (kindOf (s .actions k)) 1 (λ e. c .if4 .left (at-kind .kind-of .ensures .0 ∙ sym (ap kindOf at) ∙ e))))
+    (row-other (a .c) s (start .pre .valid .issued) p k (omega arith) (ap (λ (x : Action). x .proc) at ∙ sym (at-wide .wide .ensures .0) ∙ at-own .if3 .left) (ne-eqb (kindOf (s .actions k)) 1 (λ e. c .if4 .left (at-kind .kind-of .ensures .0 ∙ sym (ap kindOf at) ∙ e))))
 
 pub row-span-spec : {M : Type 1} → statement M
 row-span-spec =

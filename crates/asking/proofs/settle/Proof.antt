@@ -40,7 +40,14 @@ lowest-requires c κs =
     let at-forward = at-start .before in
     let at-clear = at-forward .before .before .before in
     let start = at-clear .before .before .before in
-    (start .pre .0, at-forward .forward .ensures, start .pre .1, start .pre .2, start-held (at-start .start .ensures .0) (at-reach .within-reach .ensures) (at-if .if1 .taken), all-clear (start .args .out .now) (at-clear .clear .ensures) (start .pre .3))
+    record {
+      fit = start .pre .0;
+      forwards = at-forward .forward .ensures;
+      few = start .pre .1;
+      asks = start .pre .2;
+      held = start-held (at-start .start .ensures .0) (at-reach .within-reach .ensures) (at-if .if1 .taken);
+      clear = all-clear (start .args .out .now) (at-clear .clear .ensures) (start .pre .3);
+    }
 
 -- src/lib.rt:212:9
 same-length : tie.Need-same-length

@@ -1,6 +1,6 @@
 use borrow.Author.Needs.{needs}
-use Rattle.choices.proofs.Rests.{no-set}
-use Rattle.choices.specs.Words.{opens}
+use Rattle.spending.proofs.Rests.{no-set}
+use Rattle.spending.specs.Words.{opens}
 use Rattle.machine.specs.Shown.{placeOf, namesOf, Acts}
 use Rattle.orders.specs.Rows.{SetOf}
 use Rattle.rules.specs.State.{State}

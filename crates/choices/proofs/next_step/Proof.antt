@@ -3,7 +3,7 @@ use Rattle.choices.proofs.Next.{Passed, pass-more, next-found, next-non
 use Rattle.machine.specs.Shown.{shown}
 use native.Mathlib.Omega.{arith}
 use Prim.Native.Nat.{_≤_, _-_}
-use mathlib.Core.Path.{_≡_}
+use mathlib.Core.Path.{_≡_, refl}
 use Rattle.choices.proofs.next_step.Statement.{statement}
 use Rattle.choices.proofs.next_step.Tie as tie
 
@@ -22,33 +22,38 @@ word-end-requires c κs = search needs
 open-word-requires : tie.Need-open-word-requires Inv-loop μ-loop
 open-word-requires c κs = search needs
 
+unechoed-requires : tie.Need-unechoed-requires Inv-loop μ-loop
+unechoed-requires c κs = search needs
+
 first-fresh-requires : tie.Need-first-fresh-requires Inv-loop μ-loop
 first-fresh-requires c κs = search needs
 
 returns : tie.Need-returns Inv-loop μ-loop
 returns c =
-    let at = c .before .before .before .before .before .before .before .before .before .before in
+    let at = c .before .before .before .before .before .before .before .before .before .before .before in
     let b = at .before .before in
     let a = b .args in
     let s = shown (a .c) (a .t2) in
-    let w = c .before .before .before .before .before .before .before .before .word-end in
+    let w = c .before .before .before .before .before .before .before .before .before .word-end in
+    let u = c .before .before .unechoed in
     let j = at .loop .j in
-    next-found (a .c) s (a .spent .now) (a .at) (a .to) j (w .result) (c .before .before .open-word .result) (w .ensures .2) (omega (arith, w .ensures .1, b .pre .2)) (c .before .before .open-word .ensures) (c .before .first-fresh .result) (at .loop .inv .0) (w .ensures .1) (c .before .first-fresh .ensures) (c .if1 .taken) (at .loop .inv .2)
+    next-found (a .c) s (a .spent .now) (a .at) (a .to) j (w .result) (c .before .before .before .open-word .result) (w .ensures .2) (omega (arith, w .ensures .1, b .pre .2)) (c .before .before .before .open-word .ensures) (u .result) (u .ensures s (record { count = refl; actions = refl })) (c .before .first-fresh .result) (at .loop .inv .0) (w .ensures .1) (c .before .first-fresh .ensures) (c .if1 .taken) (at .loop .inv .2)
 
 loop-less : tie.Need-loop-less Inv-loop μ-loop
 loop-less c = search needs
 
 loop-again : tie.Need-loop-again Inv-loop μ-loop
 loop-again c =
-    let at = c .before .before .before .before .before .before .before .before .before .before in
+    let at = c .before .before .before .before .before .before .before .before .before .before .before in
     let b = at .before .before in
     let a = b .args in
     let s = shown (a .c) (a .t2) in
-    let w = c .before .before .before .before .before .before .before .before .word-end in
+    let w = c .before .before .before .before .before .before .before .before .before .word-end in
+    let u = c .before .before .unechoed in
     let j = at .loop .j in (
       omega (arith, w .ensures .0, at .loop .inv .0),
       w .ensures .1,
-      pass-more (a .c) s (a .spent .now) (a .at) (a .to) j (w .result) (c .before .before .open-word .result) (w .ensures .2) (omega (arith, w .ensures .1, b .pre .2)) (c .before .before .open-word .ensures) (c .before .first-fresh .result) (c .before .first-fresh .ensures) (c .if1 .left) (at .loop .inv .2),
+      pass-more (a .c) s (a .spent .now) (a .at) (a .to) j (w .result) (c .before .before .before .open-word .result) (w .ensures .2) (omega (arith, w .ensures .1, b .pre .2)) (c .before .before .before .open-word .ensures) (u .result) (u .ensures s (record { count = refl; actions = refl })) (c .before .first-fresh .result) (c .before .first-fresh .ensures) (c .if1 .left) (at .loop .inv .2),
     )
 
 returns-2 : tie.Need-returns-2 Inv-loop μ-loop
@@ -67,6 +72,7 @@ next-step-spec =
     loop-holds
     word-end-requires
     open-word-requires
+    unechoed-requires
     first-fresh-requires
     returns
     loop-less

@@ -1,6 +1,6 @@
 use Rattle.choices.proofs.Opens.{read-past, lone-set, issue-set}
 use Rattle.choices.specs.Opening.{machineOf}
-use Rattle.choices.specs.Words.{opens}
+use Rattle.spending.specs.Words.{opens}
 use Rattle.machine.specs.Shown.{shown}
 use native.Mathlib.Omega.{arith}
 use Prim.Native.Nat.{ℕ, _-_}

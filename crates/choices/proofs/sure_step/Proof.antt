@@ -1,4 +1,4 @@
-use Rattle.choices.proofs.Answers.{sure-lone, sure-issue, sure-none}
+use Rattle.choices.proofs.Answers.{sure-lone, sure-issue, sure-dead}
 use Rattle.choices.proofs.Opens.{issue-accepts}
 use Rattle.machine.specs.Shown.{shown}
 use Prim.Native.Nat.{_-_}
@@ -18,7 +18,7 @@ returns c =
     let b = c .before .before .before .before .before .before in
     let a = b .args in
     let s = shown (a .c) (a .t2) in
-    sure-lone (a .c) s (a .n) (c .before .sure-commit .result) (c .before .sure-commit .ensures s (record { count = refl; actions = refl }) refl refl) (c .if1 .taken)
+    sure-lone (a .c) s (a .marked) (a .n) (c .before .sure-commit .result) (c .before .sure-commit .ensures s (record { count = refl; actions = refl }) refl refl) (c .if1 .taken)
 
 add-if2 : tie.Need-add-if2
 add-if2 c = search needs
@@ -35,23 +35,21 @@ returns-2 c =
     let b = u .before .before .before .before .before in
     let a = b .args in
     let s = shown (a .c) (a .t2) in
-    sure-issue (a .c) s (a .n) (u .sure-commit .result) (u .sure-commit .ensures s (record { count = refl; actions = refl }) refl refl) (c .before .issuer .result) (c .if3 .taken)
+    sure-issue (a .c) s (a .marked) (a .n) (u .sure-commit .result) (u .sure-commit .ensures s (record { count = refl; actions = refl }) refl refl) (c .before .issuer .result) (c .if3 .taken)
     (issue-accepts (a .c) s (c .before .issuer .result) (c .before .issuer .ensures s (record { count = refl; actions = refl }) refl refl (c .if3 .taken)))
     (rw (sym (b .pre .1)) (c .before .before .before .before .before .if2 .taken))
 
+first-dead-requires : tie.Need-first-dead-requires
+first-dead-requires c κs = search needs
+
 returns-3 : tie.Need-returns-3
 returns-3 c =
-    let u = c .before .before .before .before .before .before .before in
+    let w = c .before .before .before .before .before in
+    let u = w .before in
     let a = u .before .before .before .before .before .args in
     let s = shown (a .c) (a .t2) in
-    sure-none (a .c) s (a .n) (u .sure-commit .result) (u .sure-commit .ensures s (record { count = refl; actions = refl }) refl refl) (c .before .before .before .before .before .before .if1 .left)
-
-returns-4 : tie.Need-returns-4
-returns-4 c =
-    let u = c .before .before in
-    let a = u .before .before .before .before .before .args in
-    let s = shown (a .c) (a .t2) in
-    sure-none (a .c) s (a .n) (u .sure-commit .result) (u .sure-commit .ensures s (record { count = refl; actions = refl }) refl refl) (c .before .if1 .left)
+    sure-dead (a .c) s (a .marked) (a .n) (u .sure-commit .result) (u .sure-commit .ensures s (record { count = refl; actions = refl }) refl refl) (w .if1 .left)
+    (c .first-dead .result) (c .first-dead .ensures s (record { count = refl; actions = refl }) refl refl)
 
 pub sure-step-spec : {M : Type 1} → statement M
 sure-step-spec =
@@ -64,5 +62,5 @@ sure-step-spec =
     issuer-requires
     add-result-2
     returns-2
-    returns-3
-    returns-4)
+    first-dead-requires
+    returns-3)

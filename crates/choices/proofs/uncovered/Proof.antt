@@ -1,5 +1,5 @@
 use borrow.Author.Needs.{needs}
-use Rattle.choices.proofs.Rests.{no-set}
+use Rattle.spending.proofs.Rests.{no-set}
 use Rattle.orders.specs.Rows.{orderOf, SetOf}
 use Rattle.words.specs.Sets.{has}
 use mathlib.Core.Bool.{_&&_, not}

@@ -7,20 +7,22 @@ use native.Mathlib.Omega.{arith}
 use borrow.Author.Needs.{needs}
 use Rattle.clauses.specs.Wanted.{wanted}
 use Rattle.machine.specs.Shown.{shown}
-use Rattle.choices.specs.Words.{spentBy}
+use Rattle.spending.specs.Words.{spentBy}
 use Rattle.searching.proofs.Loop.{Sweeping}
-use Rattle.searching.proofs.Returns.{return-bound, loop-start, loop-most, loop-falls, loop-skip, loop-open, loop-ready, loop-turn, return-branch, return-swept, turns-same, to-most}
+use Rattle.searching.proofs.Returns.{return-bound, return-left, loop-start, loop-most, loop-falls, loop-skip, loop-open, loop-ready, loop-turn, return-branch, return-swept, turns-same, to-most}
 use borrow.Fn.Kinds.{In}
 use borrow.Fn.PlainCycle.{Measures, is, falls, and}
 use Rattle.searching.proofs.explore.Reads as explore
 use Rattle.searching.proofs.explore.Kinds as explore-kinds
 use Rattle.searching.proofs.+explore.Lts-explore as explore-lts
-use Rattle.choices.proofs.note.Reads as note-reads
-use Rattle.choices.proofs.rest.Reads as rest-reads
+use Rattle.spending.proofs.note.Reads as note-reads
+use Rattle.spending.proofs.rest.Reads as rest-reads
 use Rattle.choices.proofs.sure_step.Reads as sure-step-reads
 use Rattle.choices.proofs.take.Reads as take-reads
 use Rattle.searching.proofs.choose.Reads as choose-reads
 use Rattle.searching.proofs.cut_off.Reads as cut-off-reads
+use Rattle.leaving.proofs.leave.Reads as leave-reads
+use Rattle.searching.proofs.leave_off.Reads as leave-off-reads
 use Rattle.searching.proofs.finish.Reads as finish-reads
 use Rattle.searching.proofs.positions.Reads as positions-reads
 use Rattle.machine.proofs.finished.Reads as finished-reads
@@ -45,6 +47,10 @@ claims t = (
   finish-reads.Learnt,
   cut-off-reads.Asked,
   cut-off-reads.Learnt,
+  leave-reads.Asked,
+  leave-reads.Learnt,
+  leave-off-reads.Asked,
+  leave-off-reads.Learnt,
   sure-step-reads.Asked,
   sure-step-reads.Learnt,
   positions-reads.Asked,
@@ -96,26 +102,39 @@ returns-2 t c =
     let at-finished = c .before .before .before in
     return-bound (at-finished .before .before .pre .1) (c .before .if2 .taken) (sym (at-finished .finished .ensures) ∙ c .before .before .if1 .left) (c .cut-off .result) (c .cut-off .ensures)
 
+leave-requires : (t : ℕ) → explore-lts.Need-leave-requires (claims t) (at t) explore.Post Inv μ
+leave-requires t c κs =
+    let ready = c .before .before .before .before .pre .1 in
+    (ready .valid, ready .few)
+
+leave-off-requires : (t : ℕ) → explore-lts.Need-leave-off-requires (claims t) (at t) explore.Post Inv μ
+leave-off-requires t c κs = search needs
+
+returns-3 : (t : ℕ) → explore-lts.Need-returns-3 (claims t) (at t) explore.Post Inv μ
+returns-3 t c =
+    let at-leave = c .before .before in
+    return-left (at-leave .before .before .before .before .before .pre .1) (at-leave .leave .ensures (c .before .if3 .taken)) (c .leave-off .result) (c .leave-off .ensures)
+
 sure-step-requires : (t : ℕ) → explore-lts.Need-sure-step-requires (claims t) (at t) explore.Post Inv μ
 sure-step-requires t c κs =
-    let ready = c .before .before .before .before .pre .1 in
+    let ready = c .before .before .before .before .before .before .pre .1 in
     (ready .valid, ready .forwards, ready .few)
 
 positions-requires : (t : ℕ) → explore-lts.Need-positions-requires (claims t) (at t) explore.Post Inv μ
 positions-requires t c κs =
-    let ready = c .before .before .before .before .before .before .pre .1 in
+    let ready = c .before .before .before .before .before .before .before .before .pre .1 in
     ready .valid
 
 loop-holds : (t : ℕ) → explore-lts.Need-loop-holds (claims t) (at t) explore.Post Inv μ
 loop-holds t c =
     let at-sure = c .before .before in
-    let start = at-sure .before .before .before .before .before in
-    loop-start (start .pre .1) (at-sure .before .if2 .left) (at-sure .sure-step .result) (at-sure .sure-step .ensures) (c .positions .ensures)
+    let start = at-sure .before .before .before .before .before .before .before in
+    loop-start (start .pre .1) (at-sure .before .before .before .if2 .left) (at-sure .sure-step .result) (at-sure .sure-step .ensures) (c .positions .ensures)
 
 choose-requires : (t : ℕ) → explore-lts.Need-choose-requires (claims t) (at t) explore.Post Inv μ
 choose-requires t c κs =
     let at-loop = c .before .before in
-    let ready = at-loop .before .before .before .before .before .before .before .before .pre .1 in
+    let ready = at-loop .before .before .before .before .before .before .before .before .before .before .pre .1 in
     (ready .valid, omega arith, to-most (at-loop .before .positions .ensures), at-loop .loop .inv .0 .long)
 
 rest-requires : (t : ℕ) → explore-lts.Need-rest-requires (claims t) (at t) explore.Post Inv μ
@@ -123,9 +142,9 @@ rest-requires t c κs =
     let at-choose = c .before in
     let at-loop = at-choose .before .before .before in
     let at-sure = at-loop .before .before .before in
-    let start = at-sure .before .before .before .before .before in
+    let start = at-sure .before .before .before .before .before .before .before in
     let ready = start .pre .1 in
-    (ready .valid, omega (arith, c .if3 .taken, to-most (at-loop .before .positions .ensures)), at-loop .loop .inv .0 .long, loop-open ready (at-sure .before .if2 .left) (at-sure .sure-step .result) (at-sure .sure-step .ensures) (at-loop .before .positions .ensures) (at-loop .loop .inv) (at-choose .before .before .loop-test .taken) (at-choose .choose .result) (at-choose .choose .ensures) (c .if3 .taken))
+    (ready .valid, omega (arith, c .if4 .taken, to-most (at-loop .before .positions .ensures)), at-loop .loop .inv .0 .long, loop-open ready (at-sure .before .before .before .if2 .left) (at-sure .sure-step .result) (at-sure .sure-step .ensures) (at-loop .before .positions .ensures) (at-loop .loop .inv) (at-choose .before .before .loop-test .taken) (at-choose .choose .result) (at-choose .choose .ensures) (c .if4 .taken))
 
 take-requires : (t : ℕ) → explore-lts.Need-take-requires (claims t) (at t) explore.Post Inv μ
 take-requires t c κs =
@@ -133,14 +152,14 @@ take-requires t c κs =
     let at-choose = at-if .before in
     let at-loop = at-choose .before .before .before in
     let at-sure = at-loop .before .before .before in
-    let start = at-sure .before .before .before .before .before in
+    let start = at-sure .before .before .before .before .before .before .before in
     let ready = start .pre .1 in
-    (ready .valid, omega (arith, at-if .if3 .taken, to-most (at-loop .before .positions .ensures)), loop-open ready (at-sure .before .if2 .left) (at-sure .sure-step .result) (at-sure .sure-step .ensures) (at-loop .before .positions .ensures) (at-loop .loop .inv) (at-choose .before .before .loop-test .taken) (at-choose .choose .result) (at-choose .choose .ensures) (at-if .if3 .taken))
+    (ready .valid, omega (arith, at-if .if4 .taken, to-most (at-loop .before .positions .ensures)), loop-open ready (at-sure .before .before .before .if2 .left) (at-sure .sure-step .result) (at-sure .sure-step .ensures) (at-loop .before .positions .ensures) (at-loop .loop .inv) (at-choose .before .before .loop-test .taken) (at-choose .choose .result) (at-choose .choose .ensures) (at-if .if4 .taken))
 
 sub-explore : (t : ℕ) → explore-lts.Need-sub-explore (claims t) (at t) explore.Post Inv μ
 sub-explore t c =
     let at-choose = c .before .before .before in
-    let at-more = at-choose .before .before .before .before .before .before .before in
+    let at-more = at-choose .before .before .before .before .before .before .before .before .before in
     omega (arith, at-more .if2 .left)
 
 explore-requires : (t : ℕ) → explore-lts.Need-explore-requires (claims t) (at t) explore.Post Inv μ
@@ -151,10 +170,10 @@ explore-requires t c κs =
     let at-choose = at-if .before in
     let at-loop = at-choose .before .before .before in
     let at-sure = at-loop .before .before .before in
-    let start = at-sure .before .before .before .before .before in
+    let start = at-sure .before .before .before .before .before .before .before in
     let ready = start .pre .1 in (
-      subst (λ (k : ℕ). start .args .n - 1 < k) (start .pre .0) (omega (arith, at-sure .before .if2 .left)),
-      loop-ready ready (at-sure .before .if2 .left) (at-sure .sure-step .result) (at-sure .sure-step .ensures) (at-loop .before .positions .ensures) (at-loop .loop .inv) (at-choose .before .before .loop-test .taken) (at-choose .choose .result) (at-choose .choose .ensures) (at-if .if3 .taken) (at-rest .rest .ensures) (record { shows = at-take .take .ensures .0; valid = at-take .take .ensures .1 }),
+      subst (λ (k : ℕ). start .args .n - 1 < k) (start .pre .0) (omega (arith, at-sure .before .before .before .if2 .left)),
+      loop-ready ready (at-sure .before .before .before .if2 .left) (at-sure .sure-step .result) (at-sure .sure-step .ensures) (at-loop .before .positions .ensures) (at-loop .loop .inv) (at-choose .before .before .loop-test .taken) (at-choose .choose .result) (at-choose .choose .ensures) (at-if .if4 .taken) (at-rest .rest .ensures) (record { shows = at-take .take .ensures .0; valid = at-take .take .ensures .1 }),
     )
 
 same-length-2 : (t : ℕ) → explore-lts.Need-same-length-2 (claims t) (at t) explore.Post Inv μ
@@ -163,8 +182,8 @@ same-length-2 t c =
     let at-loop = at-explore .before .before .before .before .before .before .before .before in
     at-explore .explore .ensures .filled .size ∙ at-loop .loop .inv .0 .size
 
-returns-3 : (t : ℕ) → explore-lts.Need-returns-3 (claims t) (at t) explore.Post Inv μ
-returns-3 t c =
+returns-4 : (t : ℕ) → explore-lts.Need-returns-4 (claims t) (at t) explore.Post Inv μ
+returns-4 t c =
     let at-explore = c .before .before .before .before in
     let at-take = at-explore .before .before in
     let at-rest = at-take .before in
@@ -172,9 +191,9 @@ returns-3 t c =
     let at-choose = at-if .before in
     let at-loop = at-choose .before .before .before in
     let at-sure = at-loop .before .before .before in
-    let start = at-sure .before .before .before .before .before in
+    let start = at-sure .before .before .before .before .before .before .before in
     let ready = start .pre .1 in
-    return-branch ready (at-sure .before .if2 .left) (at-sure .sure-step .result) (at-sure .sure-step .ensures) (at-loop .before .positions .ensures) (at-loop .loop .inv) (at-choose .before .before .loop-test .taken) (at-choose .choose .result) (at-choose .choose .ensures) (at-if .if3 .taken) (at-rest .rest .ensures) (record { shows = at-take .take .ensures .0; valid = at-take .take .ensures .1 }) (at-explore .explore .ensures) (c .if4 .taken)
+    return-branch ready (at-sure .before .before .before .if2 .left) (at-sure .sure-step .result) (at-sure .sure-step .ensures) (at-loop .before .positions .ensures) (at-loop .loop .inv) (at-choose .before .before .loop-test .taken) (at-choose .choose .result) (at-choose .choose .ensures) (at-if .if4 .taken) (at-rest .rest .ensures) (record { shows = at-take .take .ensures .0; valid = at-take .take .ensures .1 }) (at-explore .explore .ensures) (c .if5 .taken)
 
 note-requires : (t : ℕ) → explore-lts.Need-note-requires (claims t) (at t) explore.Post Inv μ
 note-requires t c κs =
@@ -182,50 +201,50 @@ note-requires t c κs =
     let at-choose = at-if .before in
     let at-loop = at-choose .before .before .before in
     let at-sure = at-loop .before .before .before in
-    let start = at-sure .before .before .before .before .before in
+    let start = at-sure .before .before .before .before .before .before .before in
     let ready = start .pre .1 in
-    (omega (arith, at-if .if3 .taken, to-most (at-loop .before .positions .ensures)), at-loop .loop .inv .0 .long)
+    (omega (arith, at-if .if4 .taken, to-most (at-loop .before .positions .ensures)), at-loop .loop .inv .0 .long)
 
 add-at : (t : ℕ) → explore-lts.Need-add-at (claims t) (at t) explore.Post Inv μ
 add-at t c =
     let at-choose = c .before in
     let at-loop = at-choose .before .before .before in
     let at-sure = at-loop .before .before .before in
-    let start = at-sure .before .before .before .before .before in
+    let start = at-sure .before .before .before .before .before .before .before in
     let ready = start .pre .1 in
-    omega (arith, loop-most ready (at-sure .before .if2 .left) (at-sure .sure-step .result) (at-sure .sure-step .ensures) (at-loop .before .positions .ensures) (at-loop .loop .inv) (at-choose .before .before .loop-test .taken) (at-choose .choose .result) (at-choose .choose .ensures), to-most (at-loop .before .positions .ensures))
+    omega (arith, loop-most ready (at-sure .before .before .before .if2 .left) (at-sure .sure-step .result) (at-sure .sure-step .ensures) (at-loop .before .positions .ensures) (at-loop .loop .inv) (at-choose .before .before .loop-test .taken) (at-choose .choose .result) (at-choose .choose .ensures), to-most (at-loop .before .positions .ensures))
 
 loop-less : (t : ℕ) → explore-lts.Need-loop-less (claims t) (at t) explore.Post Inv μ
 loop-less t c =
     let at-choose = c .before in
     let at-loop = at-choose .before .before .before in
     let at-sure = at-loop .before .before .before in
-    let start = at-sure .before .before .before .before .before in
+    let start = at-sure .before .before .before .before .before .before .before in
     let ready = start .pre .1 in
-    omega (arith, loop-falls ready (at-sure .before .if2 .left) (at-sure .sure-step .result) (at-sure .sure-step .ensures) (at-loop .before .positions .ensures) (at-loop .loop .inv) (at-choose .before .before .loop-test .taken) (at-choose .choose .result) (at-choose .choose .ensures))
+    omega (arith, loop-falls ready (at-sure .before .before .before .if2 .left) (at-sure .sure-step .result) (at-sure .sure-step .ensures) (at-loop .before .positions .ensures) (at-loop .loop .inv) (at-choose .before .before .loop-test .taken) (at-choose .choose .result) (at-choose .choose .ensures))
 
 loop-again : (t : ℕ) → explore-lts.Need-loop-again (claims t) (at t) explore.Post Inv μ
 loop-again t c =
     let at-choose = c .before in
     let at-loop = at-choose .before .before .before in
     let at-sure = at-loop .before .before .before in
-    let start = at-sure .before .before .before .before .before in
+    let start = at-sure .before .before .before .before .before .before .before in
     let ready = start .pre .1 in
     ⊎-elim
     (λ w. turns-same (w .10) (w .11) (w .12)
-    (loop-turn ready (at-sure .before .if2 .left) (at-sure .sure-step .result) (at-sure .sure-step .ensures) (at-loop .before .positions .ensures) (at-loop .loop .inv) (at-choose .before .before .loop-test .taken) (at-choose .choose .result) (at-choose .choose .ensures) (w .0 .taken) (w .1 .ensures) (record { shows = w .2 .ensures .0; valid = w .2 .ensures .1 }) (w .4 .ensures) (w .8 .left) (w .9 .ensures)))
-    (λ w. turns-same (w .1) (w .2) (w .3) (loop-skip ready (at-sure .before .if2 .left) (at-sure .sure-step .result) (at-sure .sure-step .ensures) (at-loop .before .positions .ensures) (at-loop .loop .inv) (at-choose .before .before .loop-test .taken) (at-choose .choose .result) (at-choose .choose .ensures) (w .0 .left)))
-    (c .if3 .came)
+    (loop-turn ready (at-sure .before .before .before .if2 .left) (at-sure .sure-step .result) (at-sure .sure-step .ensures) (at-loop .before .positions .ensures) (at-loop .loop .inv) (at-choose .before .before .loop-test .taken) (at-choose .choose .result) (at-choose .choose .ensures) (w .0 .taken) (w .1 .ensures) (record { shows = w .2 .ensures .0; valid = w .2 .ensures .1 }) (w .4 .ensures) (w .8 .left) (w .9 .ensures)))
+    (λ w. turns-same (w .1) (w .2) (w .3) (loop-skip ready (at-sure .before .before .before .if2 .left) (at-sure .sure-step .result) (at-sure .sure-step .ensures) (at-loop .before .positions .ensures) (at-loop .loop .inv) (at-choose .before .before .loop-test .taken) (at-choose .choose .result) (at-choose .choose .ensures) (w .0 .left)))
+    (c .if4 .came)
 
 same-length-3 : (t : ℕ) → explore-lts.Need-same-length-3 (claims t) (at t) explore.Post Inv μ
 same-length-3 t c = c .before .loop .inv .0 .size
 
-returns-4 : (t : ℕ) → explore-lts.Need-returns-4 (claims t) (at t) explore.Post Inv μ
-returns-4 t c =
+returns-5 : (t : ℕ) → explore-lts.Need-returns-5 (claims t) (at t) explore.Post Inv μ
+returns-5 t c =
     let at-loop = c .before in
     let at-sure = at-loop .before .before .before in
-    let at-finished = at-sure .before .before .before in
-    return-swept (at-finished .before .before .pre .1) (at-sure .before .if2 .left) (at-sure .sure-step .result) (at-sure .sure-step .ensures) (at-loop .before .positions .ensures) (sym (at-finished .finished .ensures) ∙ at-sure .before .before .if1 .left) (at-loop .loop .inv) (c .loop-test .left)
+    let at-finished = at-sure .before .before .before .before .before in
+    return-swept (at-finished .before .before .pre .1) (at-sure .before .before .before .if2 .left) (at-sure .sure-step .result) (at-sure .sure-step .ensures) (at-loop .before .positions .ensures) (sym (at-finished .finished .ensures) ∙ at-sure .before .before .before .before .if1 .left) (at-loop .loop .inv) (c .loop-test .left)
 
 pub +explore-spec : {M : Type 1} → statement M
 +explore-spec = close μ-explore λ t. explore-lts.spec (claims t)
@@ -239,6 +258,9 @@ pub +explore-spec : {M : Type 1} → statement M
     (returns t)
     (cut-off-requires t)
     (returns-2 t)
+    (leave-requires t)
+    (leave-off-requires t)
+    (returns-3 t)
     (sure-step-requires t)
     (positions-requires t)
     (loop-holds t)
@@ -248,10 +270,10 @@ pub +explore-spec : {M : Type 1} → statement M
     (sub-explore t)
     (explore-requires t)
     (same-length-2 t)
-    (returns-3 t)
+    (returns-4 t)
     (note-requires t)
     (add-at t)
     (loop-less t)
     (loop-again t)
     (same-length-3 t)
-    (returns-4 t)
+    (returns-5 t)

@@ -1,0 +1,26 @@
+use mathlib.Core.Path.{sym}
+use Prim.Native.Nat.{_+_, _*_}
+use lib.Dec.{leb}
+use borrow.Author.Needs.{needs}
+use Rattle.leaving.proofs.drains.Statement.{statement}
+use Rattle.leaving.proofs.drains.Tie as tie
+
+queue-requires : tie.Need-queue-requires
+queue-requires c κs = search needs
+
+add-result : tie.Need-add-result
+add-result c = search needs
+
+mul-result : tie.Need-mul-result
+mul-result c = search needs
+
+add-result-2 : tie.Need-add-result-2
+add-result-2 c = search needs
+
+returns : tie.Need-returns
+returns c =
+    let a = c .before .args in
+    λ k s h. λ j. leb (96 + c .queue .ensures .1 k s h j) (a .n + 2 * sym (h .count) j)
+
+pub drains-spec : {M : Type 1} → statement M
+drains-spec = tie.close (tie.spec queue-requires add-result mul-result add-result-2 returns)
