@@ -1,5 +1,6 @@
 //! The story of the lost baseline: document 01's hand-off, its results, the bad one step by step, and the lock.
 
+use model::Plans;
 use womm::{Act, Case, Handoff, Listing, Outcome};
 
 use crate::words::{self, Names};
@@ -76,5 +77,8 @@ fn lost_baseline() -> Result<(), String> {
     for (number, line) in (1..).zip(words::steps([&SENDING, &RECEIVING], &schedule, &NAMES)) {
         println!("    {number}. {line}");
     }
+    let plans = Plans { sending: SENDING.to_vec(), receiving: RECEIVING.to_vec() };
+    let race = womm::race(&plans.case(), &schedule).map_err(refused)?.race.ok_or("nothing races where the baseline is lost")?;
+    println!("How it is lost: {}", words::race([&SENDING, &RECEIVING], race, &NAMES));
     Ok(())
 }

@@ -2,7 +2,7 @@
 
 use std::fmt;
 
-use womm::{Act, Step};
+use womm::{Access, Act, Race, Step};
 
 use model::{LOCATIONS, READY};
 
@@ -43,6 +43,16 @@ pub fn table(sending: &[Act], receiving: &[Act], names: &Names) -> Vec<String> {
     let row = |i| format!("{:23}{}", cell(Side::Sender, sending, i), cell(Side::Receiver, receiving, i)).trim_end().to_string();
     let head = "sender (core 0)        receiver (core 1)".to_string();
     [head].into_iter().chain((0..sending.len().max(receiving.len())).map(row)).collect()
+}
+
+/// The two accesses of a race of two plans.
+pub fn race(plans: [&[Act]; 2], race: Race, names: &Names) -> String {
+    let whose = |access: Access| {
+        let core = usize::from(access.at.processor);
+        let side = [Side::Sender, Side::Receiver][core];
+        format!("the {side}'s \"{}\"", act(side, plans[core][usize::from(access.at.place)], names))
+    };
+    format!("{} and {} race: nothing orders them.", whose(race.first), whose(race.second))
 }
 
 /// The steps of a schedule of two plans, a line each.

@@ -14,6 +14,7 @@ fn the_story_is_told() {
     let (status, text) = run(&[]);
     assert_eq!(status, 0, "{text}");
     assert!(text.contains("LENGTH EMPTY") && text.contains("The lost baseline cannot happen."), "{text}");
+    assert!(text.contains("the sender's \"write the length\" and the receiver's \"read the length\" race"), "{text}");
 }
 
 #[test]

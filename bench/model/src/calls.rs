@@ -38,6 +38,14 @@ pub struct Replayed {
     pub position: u32,
 }
 
+/// The answer for the first race of a schedule: how its replay went, with code 14 where a queue is not empty.
+#[derive(Clone, Copy, Debug, PartialEq, Eq)]
+pub struct Raced {
+    pub replayed: Replayed,
+    /// The two actions by their numbers, the earlier first.
+    pub pair: Option<[u8; 2]>,
+}
+
 /// The answer to a wanted result; with yes, its lowest schedule stands in the lent buffer.
 #[derive(Clone, Copy, Debug, PartialEq, Eq)]
 pub struct Asked {
@@ -169,6 +177,11 @@ pub trait Asker {
 /// Replays a schedule and says why each processor's oldest queued action waits then, a byte each.
 pub trait Waiter {
     fn why(&self, block: &[u8], schedule: &[u8], causes: &mut [u8]) -> Replayed;
+}
+
+/// Replays a schedule and gives its first race.
+pub trait Racer {
+    fn race(&self, block: &[u8], schedule: &[u8]) -> Raced;
 }
 
 /// Judges a pair of plans.

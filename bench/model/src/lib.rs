@@ -15,7 +15,7 @@ mod refusal;
 mod schedule;
 mod wait;
 
-pub use calls::{Asked, Asker, Board, BoardLister, Codec, HandedOff, Listed, Lister, Planner, Read};
+pub use calls::{Asked, Asker, Board, BoardLister, Codec, HandedOff, Listed, Lister, Planner, Raced, Racer, Read};
 pub use calls::{Replayed, Replayer, Verdict, Waiter, Written};
 pub use case::{Case, CaseBuilder, Processor};
 pub use clause::{clause, Clause, Named, CLAUSES};

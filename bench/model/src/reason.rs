@@ -1,6 +1,7 @@
 use std::fmt;
 
-/// The refusals of documents 01 and 02, in the order they are tried; a hand-off tries `Plan` before `ScheduleRoom`.
+/// The refusals of documents 01 and 02, in the order they are tried; a hand-off tries `Plan` before `ScheduleRoom`, a
+/// race `Queued` after those of a step.
 #[derive(Clone, Copy, Debug, PartialEq, Eq, PartialOrd, Ord, Hash)]
 pub enum Reason {
     BlockLength,
@@ -17,6 +18,7 @@ pub enum Reason {
     Room,
     Clauses,
     ScheduleRoom,
+    Queued,
     Plan,
     BadStep,
     PlaceUndefined,
@@ -36,7 +38,7 @@ pub enum Reason {
 use Reason::*;
 
 /// Each refusal with its code and its document's words, in the order they are tried.
-const TABLE: [(Reason, u32, &str); 28] = [
+const TABLE: [(Reason, u32, &str); 29] = [
     (BlockLength, 1, "length is not 512"),
     (Check, 2, "check"),
     (Sizes, 3, "bytes 0 to 3"),
@@ -51,6 +53,7 @@ const TABLE: [(Reason, u32, &str); 28] = [
     (Room, 11, "more distinct outcomes than length ÷ 96, rounded down"),
     (Clauses, 12, "over 8 clauses, an absent processor or a register over 7"),
     (ScheduleRoom, 13, "schedule buffer not 384 bytes"),
+    (Queued, 14, "a queue is not empty"),
     (Plan, 15, "a plan that is not one of a hand-off"),
     (BadStep, 20, "kind over 1, processor not below P, or an issue with byte 2 or 3 not zero"),
     (PlaceUndefined, 21, "place counter undefined"),
@@ -113,7 +116,7 @@ mod tests {
             assert_eq!(Reason::from_code(*code), Some(*refusal));
         }
         let codes: Vec<u32> = Reason::all().map(Reason::code).collect();
-        assert_eq!(codes, (1..=7).chain([19]).chain(8..=13).chain([15]).chain(20..=32).collect::<Vec<u32>>());
+        assert_eq!(codes, (1..=7).chain([19]).chain(8..=15).chain(20..=32).collect::<Vec<u32>>());
         assert_eq!(Reason::from_code(0), None);
     }
 }

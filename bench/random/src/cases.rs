@@ -76,6 +76,25 @@ fn two_sections(rng: &mut Rng) -> Case {
     case.build().expect("a sound case")
 }
 
+/// A case of critical sections of one lock, with now and then another lock or an access outside: most of its runs have
+/// no race.
+pub fn to_order(rng: &mut Rng) -> Case {
+    let processors = rng.pick(&[2, 2, 3]);
+    let mut case = started(rng, processors, 2);
+    for p in 0..processors {
+        let mut program = vec![];
+        for _ in 0..1 + rng.below(2) {
+            let lock = if rng.once_in(16) { 1 } else { 0 };
+            program.push(acquire(lock));
+            program.extend((0..1 + rng.below(2)).map(|_| racing(rng)));
+            program.push(release(lock));
+            program.extend(rng.once_in(16).then(|| racing(rng)));
+        }
+        case = case.preset(p, 7, p as u16 + 5).program(p, &program);
+    }
+    case.build().expect("a sound case")
+}
+
 /// A processor or two that wait until a location is no longer 0, beside one that writes: runs may be long,
 /// yet a branch keeps what can be issued early small.
 fn spinning(rng: &mut Rng) -> Case {

@@ -205,7 +205,7 @@ impl Inputs {
     }
 
     /// Takes accepted steps up to a random number or until there are none.
-    fn walk(&mut self, run: &mut Run) -> Vec<[u8; 4]> {
+    pub(crate) fn walk(&mut self, run: &mut Run) -> Vec<[u8; 4]> {
         let most = if self.rng.once_in(5) { self.rng.below(20) } else { 20 + self.rng.below(77) };
         let eager = self.rng.below(4);
         self.steps(run, most, eager)
@@ -239,7 +239,7 @@ impl Inputs {
     }
 
     /// Any step whose numbers are near those in use.
-    fn any_step(&mut self, case: &Case, run: &Run) -> [u8; 4] {
+    pub(crate) fn any_step(&mut self, case: &Case, run: &Run) -> [u8; 4] {
         let processor = self.rng.below(case.processors().len()) as u8;
         match self.rng.below(12) {
             0 => [self.rng.byte(), self.rng.byte(), self.rng.byte(), self.rng.byte()],
@@ -250,7 +250,7 @@ impl Inputs {
         }
     }
 
-    fn spoilt_replay(&mut self, mut input: ReplayInput) -> ReplayInput {
+    pub(crate) fn spoilt_replay(&mut self, mut input: ReplayInput) -> ReplayInput {
         match self.rng.below(48) {
             0 => input.block = self.spoilt_block(&input.block),
             1 => input.schedule.push(self.rng.byte()),

@@ -7,6 +7,7 @@ mod cases;
 mod compare;
 mod inputs;
 mod plans;
+mod races;
 mod rng;
 mod tally;
 
@@ -14,5 +15,6 @@ pub use boards::{compare_boards, BoardMismatch, BoardTally};
 pub use compare::{compare, run, Calls, Mismatch, Plan};
 pub use inputs::{AskInput, Inputs, ListInput, Listable, ReplayInput};
 pub use plans::{compare_plans, legal_plans, random_plans, PlanInput, PlanMismatch, PlanTally};
+pub use races::{compare_races, RaceMismatch, RaceTally};
 pub use rng::Rng;
 pub use tally::Tally;

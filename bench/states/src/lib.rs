@@ -7,6 +7,7 @@
 mod ask;
 mod handoff;
 mod order;
+mod race;
 mod replay;
 mod search;
 mod state;
@@ -17,7 +18,7 @@ pub use replay::Run;
 pub use search::{list, list_within, Listing};
 
 use model::{block, put_schedule, Asked, Asker, Case, Clause, Codec, Listed, Lister, Read, Reason, Refusal};
-use model::{Replayed, Replayer, Waiter, Written, ENDING, RECORD, SCHEDULE, STEPS, WAITS};
+use model::{Raced, Racer, Replayed, Replayer, Waiter, Written, ENDING, RECORD, SCHEDULE, STEPS, WAITS};
 
 /// The enumerator behind the bytes that the library takes.
 pub struct States;
@@ -107,6 +108,23 @@ impl Waiter for States {
             *cause = wait.byte();
         }
         replayed
+    }
+}
+
+impl Racer for States {
+    fn race(&self, block: &[u8], schedule: &[u8]) -> Raced {
+        let case = match replayable(block, schedule, true) {
+            Ok(case) => case,
+            Err(refusal) => return Raced { replayed: Replayed::refused(refusal), pair: None },
+        };
+        let (run, replayed) = replayed(&case, schedule);
+        if replayed.code != 0 {
+            return Raced { replayed, pair: None };
+        }
+        if run.queued() {
+            return Raced { replayed: Replayed { code: Reason::Queued.code(), ..replayed }, pair: None };
+        }
+        Raced { replayed, pair: run.races(schedule).into_iter().min() }
     }
 }
 

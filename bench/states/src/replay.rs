@@ -90,6 +90,11 @@ impl<'a> Run<'a> {
         &self.state
     }
 
+    /// The actions by their numbers.
+    pub(crate) fn issued(&self) -> &[Id] {
+        &self.issued
+    }
+
     pub(crate) fn case(&self) -> &Case {
         self.case
     }

@@ -32,6 +32,18 @@ extern "C" {
         position: *mut usize,
     ) -> u32;
 
+    fn womm_race(
+        block: *const u8,
+        block_length: usize,
+        schedule: *const u8,
+        schedule_length: usize,
+        first: *mut usize,
+        second: *mut usize,
+        steps: *mut usize,
+        place: *mut usize,
+        position: *mut usize,
+    ) -> u32;
+
     fn womm_outcomes(
         block: *const u8,
         block_length: usize,
@@ -130,6 +142,15 @@ pub fn why(block: &[u8], schedule: &[u8], causes: &mut [u8], numbers: ReplayNumb
     let (bytes, length) = (causes.as_mut_ptr(), causes.len());
     // SAFETY: as above; `causes` and the numbers are lent to this call alone.
     unsafe { womm_why(block.as_ptr(), block.len(), given, given_length, bytes, length, steps, place, position) }
+}
+
+/// Replays a schedule and gives its first race; gives the code.
+pub fn race(block: &[u8], schedule: &[u8], pair: [&mut usize; 2], numbers: ReplayNumbers) -> u32 {
+    let ReplayNumbers { steps, place, position } = numbers;
+    let [first, second] = pair;
+    let (given, length) = (schedule.as_ptr(), schedule.len());
+    // SAFETY: as above; the numbers are lent to this call alone.
+    unsafe { womm_race(block.as_ptr(), block.len(), given, length, first, second, steps, place, position) }
 }
 
 /// Lists outcomes; gives the code.

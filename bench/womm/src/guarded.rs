@@ -1,10 +1,10 @@
 use std::hint::black_box;
 
-use model::{clause, Asked, Asker, Board, BoardLister, Clause, Codec, HandedOff, Listed, Lister, Planner, Read};
+use model::{clause, Asked, Asker, Board, BoardLister, Clause, Codec, HandedOff, Listed, Lister, Planner, Raced, Racer, Read};
 use model::{Replayed, Replayer, Waiter, Written};
 
 use crate::ffi::{self, ListNumbers, ReplayNumbers};
-use crate::library::{asked, mark, place_given, short, verdict_given};
+use crate::library::{asked, mark, pair_given, place_given, short, verdict_given};
 
 /// The library with everything it is lent standing between canaries. After each call the canaries stand,
 /// the inputs are what they were, and every number has been given.
@@ -113,9 +113,20 @@ impl Waiter for Guarded {
     }
 }
 
+impl Racer for Guarded {
+    fn race(&self, block: &[u8], schedule: &[u8]) -> Raced {
+        let [mut first, mut second] = std::array::from_fn(|_| FencedNumber::new());
+        let call = |block: &[u8], schedule: &[u8], _: &mut [u8], given: ReplayNumbers| {
+            ffi::race(block, schedule, [first.lent(), second.lent()], given)
+        };
+        let replayed = replayed(call, block, schedule, &mut []);
+        Raced { replayed, pair: pair_given(first.opened("first action"), second.opened("second action")) }
+    }
+}
+
 /// Makes one of the calls that take a schedule and hand back a replay's numbers.
 fn replayed(
-    call: fn(&[u8], &[u8], &mut [u8], ReplayNumbers) -> u32,
+    call: impl FnOnce(&[u8], &[u8], &mut [u8], ReplayNumbers) -> u32,
     block: &[u8],
     schedule: &[u8],
     filled: &mut [u8],

@@ -5,13 +5,15 @@
 mod ffi;
 mod guarded;
 mod library;
+mod race;
 mod stop;
 
 pub use guarded::Guarded;
 pub use library::Library;
 pub use model::{clause, ops, Act, Asked, Asker, Board, BoardLister, Case, CaseBuilder, Clause, Codec, Ending, HandedOff};
-pub use model::{Instr, Listed, Lister, Outcome, Planner, Read, Reason, Refusal, Replayed, Replayer, Step, Verdict, Wait};
-pub use model::{Waiter, Written};
+pub use model::{Instr, Listed, Lister, Outcome, Planner, Raced, Racer, Read, Reason, Refusal, Replayed, Replayer, Step};
+pub use model::{Verdict, Wait, Waiter, Written};
+pub use race::{race, Access, Race, Racing};
 pub use stop::{Place, Stop};
 
 use model::{schedule, steps, ENDING, RECORD, SCHEDULE, WAITS};

@@ -1,7 +1,7 @@
 //! The library over plain bytes, and the numbers that it gives.
 
-use model::{Asked, Asker, Board, BoardLister, Clause, Codec, HandedOff, Listed, Lister, Planner, Read, Replayed, Replayer};
-use model::{Verdict, Waiter, Written};
+use model::{Asked, Asker, Board, BoardLister, Clause, Codec, HandedOff, Listed, Lister, Planner, Raced, Racer, Read};
+use model::{Replayed, Replayer, Verdict, Waiter, Written};
 
 use crate::ffi::{self, AskNumbers, ListNumbers, ReplayNumbers};
 
@@ -53,6 +53,14 @@ impl Waiter for Library {
     }
 }
 
+impl Racer for Library {
+    fn race(&self, block: &[u8], schedule: &[u8]) -> Raced {
+        let [mut first, mut second] = [0; 2];
+        let replayed = replayed(|given| ffi::race(block, schedule, [&mut first, &mut second], given));
+        Raced { replayed, pair: pair_given(first, second) }
+    }
+}
+
 /// Makes one of the calls that hand back a replay's numbers.
 fn replayed(call: impl FnOnce(ReplayNumbers) -> u32) -> Replayed {
     let [mut steps, mut place, mut position] = [0; 3];
@@ -88,6 +96,13 @@ pub(crate) fn short(count: usize) -> u32 {
 pub(crate) fn place_given(number: usize) -> Option<u8> {
     let place = number.try_into().expect("no place is so large");
     Some(place).filter(|&place| place != 255)
+}
+
+/// Two actions that the library gives; 255 both is none.
+pub(crate) fn pair_given(first: usize, second: usize) -> Option<[u8; 2]> {
+    let pair = [first, second].map(|number| number.try_into().expect("no action's number is so large"));
+    assert!((pair == [255; 2]) != (pair[0] < pair[1]), "the library gave {pair:?}, which is no pair and not none");
+    Some(pair).filter(|&pair| pair != [255; 2])
 }
 
 /// A verdict that the library gives: 0 safe, 1 stale, 2 stuck.

@@ -26,7 +26,7 @@ pub item-initial : (b : Bool) (f : Action → Bool) (s : State) (e : ℕ) → e 
 item-initial b f s e h = cond-true (ltb e 8) b _ (lt-ltb e 8 h)
 
 -- an action but for its result
-abbrev bare : Action → Action
+abbrev pub bare : Action → Action
 bare a = record { proc = a .proc; place = a .place; instr = a .instr; inputs = a .inputs; loc = a .loc; result = none }
 
 -- of the actions below n

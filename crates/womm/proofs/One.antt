@@ -5,6 +5,8 @@ use Prim.Native.Nat.{ℕ}
 use Rattle.runs.specs.Listing.{Listed}
 use Rattle.replaying.specs.Answer.{Question, result}
 use Rattle.waiting.specs.Why.{waits}
+use Rattle.racing.specs.Answer.{RacedAs}
+use Rattle.racing.proofs.Answers.{race-unique}
 use Rattle.listing.proofs.Exact.{outcomes-unique}
 use Rattle.boardlisting.specs.Outcomes.{machineOf}
 use Rattle.boardlisting.proofs.Refusals as Boards
@@ -25,6 +27,9 @@ one-replay = one-answered result
 
 pub one-why : (block schedule : List ℕ) (size r r′ n n′ i i′ at at′ : ℕ) (out out′ : List ℕ) → WhyAs block schedule size r n i at out → WhyAs block schedule size r′ n′ i′ at′ out′ → (r ≡ r′) × (n ≡ n′) × (i ≡ i′) × (at ≡ at′) × (out ≡ out′)
 one-why = one-answered waits
+
+pub one-race : (block schedule : List ℕ) (r r′ j j′ k k′ n n′ i i′ at at′ : ℕ) → RacedAs block schedule r j k n i at → RacedAs block schedule r′ j′ k′ n′ i′ at′ → (r ≡ r′) × (j ≡ j′) × (k ≡ k′) × (n ≡ n′) × (i ≡ i′) × (at ≡ at′)
+one-race = race-unique
 
 pub one-list : (block : List ℕ) (bound size r r′ n n′ x x′ at at′ : ℕ) (out out′ : List ℕ) → ListedAs block bound size r n x at out → ListedAs block bound size r′ n′ x′ at′ out′ → (r ≡ r′) × (n ≡ n′) × (x ≡ x′) × (at ≡ at′) × (out ≡ out′)
 one-list block bound size r r′ n n′ x x′ at at′ out out′ a b =

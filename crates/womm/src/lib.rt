@@ -3,6 +3,7 @@ use clauses::Asked;
 use clauses::Clause;
 ghost use lib.ListN.{length};
 ghost use Rattle.clauses.specs.Wanted.{clausesOf};
+ghost use Rattle.racing.specs.Answer.{RacedAs};
 ghost use Rattle.womm.specs.Exports.{ReadAs, WrittenAs, ReplayedAs, WhyAs, ListedAs, BoardListedAs};
 ghost use Rattle.womm.specs.Asking.{AskedAs};
 ghost use Rattle.womm.specs.Handing.{HandedAs};
@@ -69,6 +70,29 @@ pub extern "C" fn womm_why(
     *place = answer.place as usize;
     *position = answer.position;
     answer.code as u32
+}
+
+// Gives the first race of a schedule after which all queues are empty: the code, the two actions, the earlier first (255 both where there is no race or a
+// code), the steps taken, the place of the instruction that the code names (else 255), the block's position.
+#[no_mangle]
+pub extern "C" fn womm_race(
+    block: &[u8],
+    schedule: &[u8],
+    first: &mut usize,
+    second: &mut usize,
+    steps: &mut usize,
+    place: &mut usize,
+    position: &mut usize,
+) -> u32
+    ensures { λ r. ⌜ RacedAs (now (block .entry)) (now (schedule .entry)) r (now (first .exit)) (now (second .exit)) (now (steps .exit)) (now (place .exit)) (now (position .exit)) ⌝ }
+{
+    let raced = racing::race(block, schedule);
+    *first = raced.first;
+    *second = raced.second;
+    *steps = raced.steps;
+    *place = raced.place as usize;
+    *position = raced.position;
+    raced.code as u32
 }
 
 // Lists the outcomes within a bound: the code, the count, the cut mark (1 yes, 0 no), the block's position, and the records' bytes.

@@ -1,0 +1,4 @@
+pub mod Happens
+pub mod Race
+pub mod Test
+pub mod Samples

@@ -1,0 +1,1 @@
+// Happens-before and the first race: definitions and laws, no code.
