@@ -44,6 +44,9 @@ module _ (c : Case) (s : State) (k : ℕ) (b : Bool) (q : b ≡ queuedRead (c .p
       and-yes : true ≡ queuedRead (c .procs) (s .actions k)
       and-yes = sym (not-false b h) ∙ q
 
+pub ready-reads : (c : Case) (s : State) (k : ℕ) → readyRead c s k ≡ true → reading (kindOf (s .actions k)) ≡ true
+ready-reads c s k h = and-both (reading (kindOf (s .actions k))) _ (and-both (queuedRead (c .procs) (s .actions k)) _ h .0) .0
+
 module _ (c : Case) (s : State) where
   -- reads
 

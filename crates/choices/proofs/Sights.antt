@@ -2,7 +2,7 @@
 use mathlib.Core.Path.{_≡_, refl, sym, _∙_}
 use mathlib.Core.Bool.{Bool, true, false, _&&_, not}
 use mathlib.Core.List.{List}
-use Prim.Native.Nat.{ℕ, _+_, _*_, _-_, _^_, _<_, _≤_}
+use Prim.Native.Nat.{ℕ, _+_, _-_, _^_, _<_, _≤_}
 use native.Mathlib.Omega.{arith}
 use native.Mathlib.Decide.{decLt}
 use lib.Bits.{bitOr}
@@ -18,12 +18,14 @@ use Rattle.rules.specs.Kinds.{reading}
 use Rattle.rules.specs.Order.{Order}
 use Rattle.rules.specs.State.{State, itemValue}
 use Rattle.rules.specs.Commit.{writes, visible}
+use Rattle.oneorder.specs.OneOrder.{standsIn, withOrder, visibleOne}
 use Rattle.orders.specs.Rows.{orderOf, SetOf}
 use Rattle.orders.proofs.Reached.{below-next}
 use Rattle.machine.specs.declared.Entry.{Entry}
-use Rattle.machine.specs.Shown.{optionOf, Acts}
+use Rattle.machine.specs.Shown.{optionOf, ordersOf, Acts}
 use Rattle.machine.proofs.Entries.{action-out, item-given, none-option}
 use Rattle.machine.proofs.Items.{item-is, first-item}
+use Rattle.machine.proofs.Ordered.{visible-rows}
 use Rattle.choices.specs.Opening.{writeTo, givenTo, Covers}
 
 -- entries
@@ -61,9 +63,9 @@ module _ (c : Case) (s : State) (l : ℕ) where
 
 -- rows
 
-pub row-is : (rows : List ℕ) (l a w : ℕ) (test : Bool) → l < 8 → w < 56 → test ≡ true → has (getD rows (56 * l + w) 0) a ≡ (test && orderOf rows l a w)
+pub row-is : (rows : List ℕ) (a w : ℕ) (test : Bool) → w < 56 → test ≡ true → has (getD rows w 0) a ≡ (test && orderOf rows a w)
 unfolding orderOf
-row-is rows l a w test h k t = rw (t, lt-ltb l 8 h, lt-ltb w 56 k)
+row-is rows a w test k t = rw (t, lt-ltb w 56 k)
 
 pub row-none : (a : ℕ) (test x : Bool) → test ≡ false → has 0 a ≡ (test && x)
 row-none a test x t = has-zero a ∙ rw t
@@ -87,14 +89,17 @@ module _ (R : Order) (P : ℕ → Bool) (i : ℕ) where
 
 -- what is visible
 
-module _ (c : Case) (n : ℕ) (acts : List Entry) (s : State) (a : Acts c n acts s) (rows : List ℕ) (o : s .orders ≡ orderOf rows) (l i : ℕ) where
+module _ (c : Case) (n : ℕ) (acts : List Entry) (s : State) (a : Acts c n acts s) (rows : List ℕ) (o : s .orders ≡ ordersOf c (s .actions) rows) (l i : ℕ) (m : l < c .locs) (q : standsIn (s .actions) l i ≡ true) where
   no-write : (e : ℕ) → 8 + n ≤ e → writes s l e ≡ false
   no-write e h = rw (le-ltb e 8 (omega arith), action-out c n acts s a (e - 8) (omega arith))
 
-  pub visible-is : (given gone seen : ℕ) → SetOf (8 + n) (givenTo c s l) given → Covers (orderOf rows l) (8 + n) (writes s l) i gone → SetOf (8 + n) (λ e. has given e && not (has gone e) && not (orderOf rows l i e)) seen → (e : ℕ) → has seen e ≡ visible c s l i e
-  unfolding visible
-  visible-is given gone seen G H S e =
+  asked : (given gone seen : ℕ) → SetOf (8 + n) (givenTo c s l) given → Covers (orderOf rows) (8 + n) (writes s l) i gone → SetOf (8 + n) (λ e. has given e && not (has gone e) && not (orderOf rows i e)) seen → (e : ℕ) → has seen e ≡ visibleOne c (withOrder s (orderOf rows)) l i e
+  unfolding visibleOne
+  asked given gone seen G H S e =
       elim (decLt e (8 + n)) [
-        | yes h ↦ S e ∙ rw (G e, H e, lt-ltb e (8 + n) h, o, a .count)
+        | yes h ↦ S e ∙ rw (G e, H e, lt-ltb e (8 + n) h, a .count)
         | no h ↦ S e ∙ rw (le-ltb e (8 + n) (omega arith), no-write e (omega arith))
       ]
+
+  pub visible-is : (given gone seen : ℕ) → SetOf (8 + n) (givenTo c s l) given → Covers (orderOf rows) (8 + n) (writes s l) i gone → SetOf (8 + n) (λ e. has given e && not (has gone e) && not (orderOf rows i e)) seen → (e : ℕ) → has seen e ≡ visible c s l i e
+  visible-is given gone seen G H S e = asked given gone seen G H S e ∙ visible-rows c s rows l i e o m q

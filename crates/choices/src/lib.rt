@@ -19,8 +19,9 @@ ghost use Rattle.rules.specs.Step.{commit, stepCode, after};
 ghost use Rattle.sure.specs.Sure.{backward, forward as isForward};
 ghost use Rattle.sure.specs.Quiet.{ended as hasEnded, pending};
 ghost use Rattle.sure.specs.Spent.{stepBy};
+ghost use Rattle.oneorder.specs.OneOrder.{standsIn};
 ghost use Rattle.orders.specs.Rows.{orderOf, SetOf};
-ghost use Rattle.machine.specs.Shown.{holderOf, placeOf, namesOf, shownEntry, shown, Acts};
+ghost use Rattle.machine.specs.Shown.{holderOf, placeOf, namesOf, shownEntry, shown, ordersOf, Acts};
 ghost use Rattle.machine.specs.Fit.{Fit};
 ghost use Rattle.machine.specs.Valid.{Valid};
 ghost use Rattle.committing.specs.Committed.{Entries};
@@ -111,28 +112,28 @@ fn given_items(acts: [Entry; 48], issued: usize, l: usize) -> u64
     items
 }
 
-// What stands before item w in the order of location l, where the test passes, else nothing.
-fn row_if(rows: &[u64; 448], l: usize, w: usize, test: bool) -> u64
-    requires { ⌜ (l < 8) × (w < 56) ⌝ }
-    ensures { λ r. ⌜ ((a : ℕ) → inSet r a ≡ (test && orderOf (now (rows .entry)) l a w)) ⌝ }
+// What stands before item w, where the test passes, else nothing.
+fn row_if(rows: &[u64; 56], w: usize, test: bool) -> u64
+    requires { ⌜ w < 56 ⌝ }
+    ensures { λ r. ⌜ ((a : ℕ) → inSet r a ≡ (test && orderOf (now (rows .entry)) a w)) ⌝ }
 {
     if test {
-        return rows[56 * l + w];
+        return rows[w];
     }
     0
 }
 
 // What stands before an item of a set, all below n, that stands before item i.
-fn covered(rows: &[u64; 448], l: usize, items: u64, n: usize, i: usize) -> u64
-    requires { ⌜ (l < 8) × (n ≤ 56) ⌝ }
-    ensures { λ r. ⌜ ((P : ℕ → Bool) → SetOf n P items → Covers (orderOf (now (rows .entry)) l) n P i r) ⌝ }
+fn covered(rows: &[u64; 56], items: u64, n: usize, i: usize) -> u64
+    requires { ⌜ n ≤ 56 ⌝ }
+    ensures { λ r. ⌜ ((P : ℕ → Bool) → SetOf n P items → Covers (orderOf (now (rows .entry))) n P i r) ⌝ }
 {
     let mut mask: u64 = 0;
     let mut w: usize = 0;
     while w < n {
         let inside = words::has(items, w);
-        let near = orders::before(rows, l, w, i);
-        let more = row_if(rows, l, w, inside & near);
+        let near = orders::before(rows, w, i);
+        let more = row_if(rows, w, inside & near);
         mask = more | mask;
         w += 1;
     }
@@ -140,16 +141,16 @@ fn covered(rows: &[u64; 448], l: usize, items: u64, n: usize, i: usize) -> u64
 }
 
 // The items of a set, all below n, that are not gone and do not stand after item i.
-fn uncovered(rows: &[u64; 448], l: usize, items: u64, gone: u64, n: usize, i: usize) -> u64
-    requires { ⌜ (l < 8) × (n ≤ 56) ⌝ }
-    ensures { λ r. ⌜ SetOf n (λ e. inSet items e && not (inSet gone e) && not (orderOf (now (rows .entry)) l i e)) r ⌝ }
+fn uncovered(rows: &[u64; 56], items: u64, gone: u64, n: usize, i: usize) -> u64
+    requires { ⌜ n ≤ 56 ⌝ }
+    ensures { λ r. ⌜ SetOf n (λ e. inSet items e && not (inSet gone e) && not (orderOf (now (rows .entry)) i e)) r ⌝ }
 {
     let mut seen: u64 = 0;
     let mut e: usize = 0;
     while e < n {
         let inside = words::has(items, e);
         let hidden = words::has(gone, e);
-        let late = orders::before(rows, l, i, e);
+        let late = orders::before(rows, i, e);
         seen = orders::with(seen, e, (inside & !hidden) & !late);
         e += 1;
     }
@@ -157,14 +158,14 @@ fn uncovered(rows: &[u64; 448], l: usize, items: u64, gone: u64, n: usize, i: us
 }
 
 // The items that are visible to the read item i of location l.
-fn visible_items(rows: &[u64; 448], acts: [Entry; 48], issued: usize, l: usize, i: usize) -> u64
+fn visible_items(rows: &[u64; 56], acts: [Entry; 48], issued: usize, l: usize, i: usize) -> u64
     requires { ⌜ (issued ≤ 48) × (length acts ≡ 48) × (l < 8) ⌝ }
-    ensures { λ r. ⌜ ((c : TheCase) (s : State) → Acts c issued acts s → s .orders ≡ orderOf (now (rows .entry)) → (e : ℕ) → inSet r e ≡ visible c s l i e) ⌝ }
+    ensures { λ r. ⌜ ((c : TheCase) (s : State) → Acts c issued acts s → s .orders ≡ ordersOf c (s .actions) (now (rows .entry)) → l < c .locs → standsIn (s .actions) l i ≡ true → (e : ℕ) → inSet r e ≡ visible c s l i e) ⌝ }
 {
     let items = write_items(acts, issued, l);
     let given = given_items(acts, issued, l);
-    let gone = covered(rows, l, items, 8 + issued, i);
-    uncovered(rows, l, given, gone, 8 + issued, i)
+    let gone = covered(rows, items, 8 + issued, i);
+    uncovered(rows, given, gone, 8 + issued, i)
 }
 
 // Whether the entry is a queued read of a present processor.
@@ -192,9 +193,9 @@ fn read_ready(c: Case, acts: [Entry; 48], issued: usize, k: usize) -> bool
 }
 
 // The items that the commit of read k may name; none of another action.
-fn sources(c: Case, rows: &[u64; 448], acts: [Entry; 48], issued: usize, k: usize) -> u64
-    requires { ⌜ (issued ≤ 48) × (length acts ≡ 48) × (k < issued) × Entries issued acts ⌝ }
-    ensures { λ r. ⌜ ((s : State) → Acts c issued acts s → s .orders ≡ orderOf (now (rows .entry)) → (e : ℕ) → inSet r e ≡ opens c s k e) ⌝ }
+fn sources(c: Case, rows: &[u64; 56], acts: [Entry; 48], issued: usize, k: usize) -> u64
+    requires { ⌜ (issued ≤ 48) × (length acts ≡ 48) × (k < issued) × Entries c issued acts ⌝ }
+    ensures { λ r. ⌜ ((s : State) → Acts c issued acts s → s .orders ≡ ordersOf c (s .actions) (now (rows .entry)) → (e : ℕ) → inSet r e ≡ opens c s k e) ⌝ }
 {
     if !read_ready(c, acts, issued, k) {
         return 0;
@@ -207,14 +208,14 @@ fn sources(c: Case, rows: &[u64; 448], acts: [Entry; 48], issued: usize, k: usiz
 // Whether the commit of action k, from item 0, is accepted.
 fn may_commit<'a>(
     c: Case,
-    rows: &'a [u64; 448],
+    rows: &'a [u64; 56],
     holders: &'a [u8; 8],
     acts: [Entry; 48],
     issued: usize,
     k: usize,
 ) -> bool
-    requires { ⌜ (issued ≤ 48) × (length acts ≡ 48) × (length (now holders) ≡ 8) × (k < issued) × Entries issued acts × (c .procs ≤ 4) ⌝ }
-    ensures { λ r. ⌜ ((s : State) → Acts c issued acts s → s .orders ≡ orderOf (now (rows .entry)) → s .holders ≡ (λ l. holderOf (getD (now (holders .entry)) l 0)) → r ≡ eqb (stepCode c s (commit (s .actions k .proc) k 0)) 0) ⌝ }
+    requires { ⌜ (issued ≤ 48) × (length acts ≡ 48) × (length (now holders) ≡ 8) × (k < issued) × Entries c issued acts × (c .procs ≤ 4) ⌝ }
+    ensures { λ r. ⌜ ((s : State) → Acts c issued acts s → s .orders ≡ ordersOf c (s .actions) (now (rows .entry)) → s .holders ≡ (λ l. holderOf (getD (now (holders .entry)) l 0)) → r ≡ eqb (stepCode c s (commit (s .actions k .proc) k 0)) 0) ⌝ }
 {
     let e = acts[k];
     let p = words::wide(e.proc);
@@ -227,14 +228,14 @@ fn may_commit<'a>(
 // Whether action k is no read and its commit is accepted.
 fn lone_open<'a>(
     c: Case,
-    rows: &'a [u64; 448],
+    rows: &'a [u64; 56],
     holders: &'a [u8; 8],
     acts: [Entry; 48],
     issued: usize,
     k: usize,
 ) -> bool
-    requires { ⌜ (issued ≤ 48) × (length acts ≡ 48) × (length (now holders) ≡ 8) × (k < issued) × Entries issued acts × (c .procs ≤ 4) ⌝ }
-    ensures { λ r. ⌜ ((s : State) → Acts c issued acts s → s .orders ≡ orderOf (now (rows .entry)) → s .holders ≡ (λ l. holderOf (getD (now (holders .entry)) l 0)) → r ≡ opens c s 48 k) ⌝ }
+    requires { ⌜ (issued ≤ 48) × (length acts ≡ 48) × (length (now holders) ≡ 8) × (k < issued) × Entries c issued acts × (c .procs ≤ 4) ⌝ }
+    ensures { λ r. ⌜ ((s : State) → Acts c issued acts s → s .orders ≡ ordersOf c (s .actions) (now (rows .entry)) → s .holders ≡ (λ l. holderOf (getD (now (holders .entry)) l 0)) → r ≡ opens c s 48 k) ⌝ }
 {
     let e = acts[k];
     let i = e.instr;
@@ -247,13 +248,13 @@ fn lone_open<'a>(
 // The actions that are no reads and whose commits are accepted.
 fn commits<'a>(
     c: Case,
-    rows: &'a [u64; 448],
+    rows: &'a [u64; 56],
     holders: &'a [u8; 8],
     acts: [Entry; 48],
     issued: usize,
 ) -> u64
-    requires { ⌜ (issued ≤ 48) × (length acts ≡ 48) × (length (now holders) ≡ 8) × Entries issued acts × (c .procs ≤ 4) ⌝ }
-    ensures { λ r. ⌜ ((s : State) → Acts c issued acts s → s .orders ≡ orderOf (now (rows .entry)) → s .holders ≡ (λ l. holderOf (getD (now (holders .entry)) l 0)) → SetOf issued (opens c s 48) r) ⌝ }
+    requires { ⌜ (issued ≤ 48) × (length acts ≡ 48) × (length (now holders) ≡ 8) × Entries c issued acts × (c .procs ≤ 4) ⌝ }
+    ensures { λ r. ⌜ ((s : State) → Acts c issued acts s → s .orders ≡ ordersOf c (s .actions) (now (rows .entry)) → s .holders ≡ (λ l. holderOf (getD (now (holders .entry)) l 0)) → SetOf issued (opens c s 48) r) ⌝ }
 {
     let mut items: u64 = 0;
     let mut k: usize = 0;
@@ -310,7 +311,7 @@ fn open_word<'a>(
     places: &'a [u8; 4],
     names: &'a [u8; 32],
     holders: &'a [u8; 8],
-    rows: &'a [u64; 448],
+    rows: &'a [u64; 56],
     acts: [Entry; 48],
     issued: usize,
     w: usize,
@@ -395,13 +396,13 @@ pub fn next_step(c: Case, m: Machine, spent: &[u64; 50], at: usize, to: usize) -
 // The first action of a sure kind whose commit is accepted, else 48.
 fn sure_commit<'a>(
     c: Case,
-    rows: &'a [u64; 448],
+    rows: &'a [u64; 56],
     holders: &'a [u8; 8],
     acts: [Entry; 48],
     issued: usize,
 ) -> usize
-    requires { ⌜ (issued ≤ 48) × (length acts ≡ 48) × (length (now holders) ≡ 8) × Entries issued acts × (c .procs ≤ 4) ⌝ }
-    ensures { λ r. ⌜ ((s : State) → Acts c issued acts s → s .orders ≡ orderOf (now (rows .entry)) → s .holders ≡ (λ l. holderOf (getD (now (holders .entry)) l 0)) → SureCommit c s r) ⌝ }
+    requires { ⌜ (issued ≤ 48) × (length acts ≡ 48) × (length (now holders) ≡ 8) × Entries c issued acts × (c .procs ≤ 4) ⌝ }
+    ensures { λ r. ⌜ ((s : State) → Acts c issued acts s → s .orders ≡ ordersOf c (s .actions) (now (rows .entry)) → s .holders ≡ (λ l. holderOf (getD (now (holders .entry)) l 0)) → SureCommit c s r) ⌝ }
 {
     let mut k: usize = 0;
     while k < issued {
@@ -467,12 +468,12 @@ fn lowest(x: u64) -> usize
 fn first_dead<'a>(
     c: Case,
     names: &'a [u8; 32],
-    rows: &'a [u64; 448],
+    rows: &'a [u64; 56],
     acts: [Entry; 48],
     issued: usize,
 ) -> usize
-    requires { ⌜ (issued ≤ 48) × (length acts ≡ 48) × (length (now names) ≡ 32) × Entries issued acts ⌝ }
-    ensures { λ r. ⌜ ((s : State) → Acts c issued acts s → s .names ≡ namesOf c (now (names .entry)) → s .orders ≡ orderOf (now (rows .entry)) → r < 3200 → DeadAt c s r) ⌝ }
+    requires { ⌜ (issued ≤ 48) × (length acts ≡ 48) × (length (now names) ≡ 32) × Entries c issued acts ⌝ }
+    ensures { λ r. ⌜ ((s : State) → Acts c issued acts s → s .names ≡ namesOf c (now (names .entry)) → s .orders ≡ ordersOf c (s .actions) (now (rows .entry)) → r < 3200 → DeadAt c s r) ⌝ }
 {
     let inner = needless::ignored(names, acts, issued);
     let mut k: usize = 0;
@@ -551,9 +552,9 @@ fn write_pending(acts: [Entry; 48], issued: usize, l: usize) -> bool
 }
 
 // Whether read k has a source, and no write to its location is queued.
-fn settled_read(c: Case, rows: &[u64; 448], acts: [Entry; 48], issued: usize, k: usize) -> bool
-    requires { ⌜ (issued ≤ 48) × (length acts ≡ 48) × (k < issued) × Entries issued acts ⌝ }
-    ensures { λ r. ⌜ ((s : State) → Acts c issued acts s → s .orders ≡ orderOf (now (rows .entry)) → r ≡ true → SettledRead c s k) ⌝ }
+fn settled_read(c: Case, rows: &[u64; 56], acts: [Entry; 48], issued: usize, k: usize) -> bool
+    requires { ⌜ (issued ≤ 48) × (length acts ≡ 48) × (k < issued) × Entries c issued acts ⌝ }
+    ensures { λ r. ⌜ ((s : State) → Acts c issued acts s → s .orders ≡ ordersOf c (s .actions) (now (rows .entry)) → r ≡ true → SettledRead c s k) ⌝ }
 {
     if sources(c, rows, acts, issued, k) == 0 {
         return false;
@@ -564,9 +565,9 @@ fn settled_read(c: Case, rows: &[u64; 448], acts: [Entry; 48], issued: usize, k:
 }
 
 // The first read with a source to whose location no write is queued, else 48.
-fn first_settled(c: Case, rows: &[u64; 448], acts: [Entry; 48], issued: usize) -> usize
-    requires { ⌜ (issued ≤ 48) × (length acts ≡ 48) × Entries issued acts ⌝ }
-    ensures { λ r. ⌜ (r ≤ 48) × ((s : State) → Acts c issued acts s → s .orders ≡ orderOf (now (rows .entry)) → r < 48 → SettledRead c s r) ⌝ }
+fn first_settled(c: Case, rows: &[u64; 56], acts: [Entry; 48], issued: usize) -> usize
+    requires { ⌜ (issued ≤ 48) × (length acts ≡ 48) × Entries c issued acts ⌝ }
+    ensures { λ r. ⌜ (r ≤ 48) × ((s : State) → Acts c issued acts s → s .orders ≡ ordersOf c (s .actions) (now (rows .entry)) → r < 48 → SettledRead c s r) ⌝ }
 {
     let mut k: usize = 0;
     while k < issued {

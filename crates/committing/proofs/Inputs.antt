@@ -101,20 +101,16 @@ module _ (c : Case) (s : State) (m n : ℕ) where
   barred-input p h (Acquire a) = refl
   barred-input p h (Release a) = refl
 
-  no-join : (z : Bool) (R : Order) (i k : ℕ) (P Q : ℕ → Bool) → joinedIf (z && false) R i k P ≡ joinedIf (z && false) R i k Q
+  pub order-input : (R : Order) (j k : ℕ) (P : ℕ → ℕ → Bool) (i : Instr) → joinedIf (acquiring (kind i)) R j k (P x) ≡ joinedIf (acquiring (kind i)) R j k (P (nth i 0))
   unfolding joinedIf
-  no-join true R i k P Q = refl
-  no-join false R i k P Q = refl
-
-  pub order-input : (z : Bool) (R : Order) (j k : ℕ) (P : ℕ → ℕ → Bool) (i : Instr) → joinedIf (z && acquiring (kind i)) R j k (P x) ≡ joinedIf (z && acquiring (kind i)) R j k (P (nth i 0))
-  order-input z R j k P Empty = no-join z R j k _ _
-  order-input z R j k P (Read d a) = refl
-  order-input z R j k P (Write a b) = refl
-  order-input z R j k P (Local d e) = no-join z R j k _ _
-  order-input z R j k P (Branch a l) = refl
-  order-input z R j k P (Goto l) = no-join z R j k _ _
-  order-input z R j k P (Acquire a) = refl
-  order-input z R j k P (Release a) = refl
+  order-input R j k P Empty = refl
+  order-input R j k P (Read d a) = refl
+  order-input R j k P (Write a b) = refl
+  order-input R j k P (Local d e) = refl
+  order-input R j k P (Branch a l) = refl
+  order-input R j k P (Goto l) = refl
+  order-input R j k P (Acquire a) = refl
+  order-input R j k P (Release a) = refl
 
   expr-inputs : (v d : ℕ) (e : Expr) → resultBy v x y (Local d e) ≡ resultBy v (nth (Local d e) 0) (nth (Local d e) 1) (Local d e)
   expr-inputs v d (Constant k) = refl

@@ -4,18 +4,22 @@ use mathlib.Core.Bool.{Bool, true, false, _&&_, not}
 use mathlib.Core.List.{List, [], _∷_}
 use mathlib.Core.Option.{Option, none}
 use Prim.Native.Nat.{ℕ, _+_, _≤_, _<_}
-use lib.Dec.{ltb}
-use borrow.Author.Tests.{lt-ltb, le-ltb, ne-eqb}
+use lib.Dec.{eqb, ltb}
+use borrow.Author.Tests.{lt-ltb, le-ltb, eq-eqb, ne-eqb}
 use Rattle.words.specs.Small.{isNone, someBelow}
 use Rattle.words.specs.Refusals.{Refusal, _when_, firstOf}
 use Rattle.words.proofs.First.{First, first, hit, miss}
-use Rattle.words.proofs.Bools.{and-left}
+use Rattle.words.proofs.Bools.{and-left, and-make, or-left, or-right}
 use Rattle.cases.specs.declared.Case.{Case}
-use Rattle.rules.specs.Kinds.{reading}
-use Rattle.rules.specs.State.{State, Action, waiting, itemValue}
+use Rattle.rules.specs.Kinds.{kind, reading, accesses, syncs}
+use Rattle.rules.specs.State.{State, Action, waiting, itemValue, standsAt}
 use Rattle.rules.specs.Order.{Order}
-use Rattle.rules.specs.Commit.{writes, visible, commitRefusals}
-use Rattle.machine.specs.Shown.{optionOf}
+use Rattle.rules.specs.Commit.{writes, commitRefusals}
+use Rattle.oneorder.specs.OneOrder.{standsIn, withOrder, visibleOne}
+use Rattle.oneorder.proofs.OneOrder.{stands-at}
+use Rattle.machine.specs.declared.Entry.{Entry}
+use Rattle.machine.specs.Shown.{optionOf, shownEntry}
+use Rattle.machine.specs.Valid.{ValidEntry}
 use Rattle.committing.specs.Committed.{restRefusals}
 
 known-some : (known : Bool) (v : ℕ) → known ≡ not (isNone (optionOf known v))
@@ -26,17 +30,20 @@ known-some false v = refl
 abbrev pub between : State → Order → ℕ → ℕ → ℕ → ℕ → Bool
 between s R l i w u = writes s l u && (R w u && R u i)
 
--- the test of visibility, from its parts
-pub sees-is : (c : Case) (s : State) (R : ℕ → Order) (l i w : ℕ) (x k h d : Bool) (v : ℕ)
-    → s .orders ≡ R → x ≡ writes s l w → optionOf k v ≡ itemValue c s w → h ≡ someBelow (8 + s .count) (λ u. writes s l u && (R l w u && R l u i)) → d ≡ R l i w
-    → (x && k && not h && not d) ≡ visible c s l i w
-unfolding visible
-sees-is c s R l i w x k h d v ho hx hv hh hd =
+-- the test of visibility in the order R, from its parts
+pub sees-is : (c : Case) (s : State) (R : Order) (l i w : ℕ) (x k h d : Bool) (v : ℕ)
+    → x ≡ writes s l w → optionOf k v ≡ itemValue c s w → h ≡ someBelow (8 + s .count) (between s R l i w) → d ≡ R i w
+    → (x && k && not h && not d) ≡ visibleOne c (withOrder s R) l i w
+unfolding visibleOne
+sees-is c s R l i w x k h d v hx hv hh hd =
     let hk = known-some k v ∙ ap (λ (o : Option ℕ). not (isNone o)) hv in
-    let r = sym ho in
-    let hh′ = hh ∙ ap (λ (Q : ℕ → Order). someBelow (8 + s .count) (λ u. writes s l u && (Q l w u && Q l u i))) r in
-    let hd′ = hd ∙ ap (λ (Q : ℕ → Order). Q l i w) r in
-    λ j. hx j && hk j && not (hh′ j) && not (hd′ j)
+    λ j. hx j && hk j && not (hh j) && not (hd j)
+
+-- the item of a read stands at its location, which is present
+pub read-stands : (c : Case) (s : State) (e : Entry) (k n : ℕ) → ValidEntry c e → s .actions k ≡ shownEntry c e → n ≡ kind (e .instr) → reading n ≡ true → (e .loc < c .locs) × (standsIn (s .actions) (e .loc) (8 + k) ≡ true)
+read-stands c s e k n v h q r =
+    let a : accesses (kind (e .instr)) ≡ true = or-left (eqb (kind (e .instr)) 1) (eqb (kind (e .instr)) 2) (ap (λ (x : ℕ). eqb x 1) (sym q) ∙ r) in
+    (v .present a, stands-at (s .actions) (e .loc) k ∙ ap (standsAt (e .loc)) h ∙ or-right (syncs (kind (e .instr))) _ (and-make _ _ a (eq-eqb (e .loc) (e .loc) refl)))
 
 -- code 32
 module _ (k : ℕ) (b : Bool) where

@@ -1,5 +1,5 @@
 -- A machine with one entry committed. Assumes nothing.
-use mathlib.Core.Path.{_≡_, refl, sym, _∙_, ap, subst, fun-ext}
+use mathlib.Core.Path.{_≡_, refl, sym, _∙_, ap, subst}
 use mathlib.Core.Logic.{inr}
 use mathlib.Core.Bool.{Bool, true, false, cond, _&&_, false≢true}
 use mathlib.Core.List.{List, [], _∷_}
@@ -7,7 +7,7 @@ use mathlib.Core.Option.{Option, none, some}
 use Prim.Native.Nat.{ℕ, zero, suc, _+_, _-_, _%_, _≤_, _<_}
 use native.Mathlib.Numerals.{add-one}
 use native.Mathlib.Omega.{arith}
-use lib.Dec.{eqb, ltb, leb}
+use lib.Dec.{eqb, leb}
 use lib.ListN.{length, getD, set, length-set}
 use lib.Seq.{set-getD}
 use borrow.Author.Tests.{ne-eqb, leb-false}
@@ -16,24 +16,32 @@ use Rattle.cases.specs.declared.Case.{Case}
 use Rattle.cases.specs.declared.Instr.{Instr}
 use Rattle.cases.specs.declared.Instr.the-variants.{Empty, Read, Write, Local, Branch, Goto, Acquire, Release}
 use Rattle.rules.specs.Kinds.{kind, branching, acquiring, syncs, labelOf}
-use Rattle.rules.specs.Order.{joinedIf}
+use Rattle.rules.specs.Order.{Order, joinedIf}
 use Rattle.rules.specs.State.{Action, State, kindOf, valueOf, inputOf, itemValue}
 use Rattle.rules.specs.Commit.{input, resultOf, committed}
-use Rattle.rules.specs.Step.{commit, stepCode}
+use Rattle.rules.specs.Step.{commit, stepCode, after as afterStep}
 use Rattle.rules.proofs.Accepted.{CanCommit, can-commit}
+use Rattle.oneorder.specs.OneOrder.{OneState, view, committedOne, afterOne}
 use Rattle.orders.specs.Rows.{orderOf}
 use Rattle.machine.specs.declared.Entry.{Entry}
 use Rattle.machine.specs.declared.Machine.{Machine}
-use Rattle.machine.specs.Shown.{shownEntry, blankEntry, shown, nameOf, placeOf, holderOf}
+use Rattle.machine.specs.Shown.{shownEntry, blankEntry, shownOne, shown, nameOf, placeOf, holderOf}
 use Rattle.machine.specs.Fit.{Fine}
 use Rattle.machine.specs.Valid.{Valid, ValidEntry, ValidPlace}
 use Rattle.machine.proofs.Entries.{action-at}
+use Rattle.machine.proofs.Ordered.{after-shows, after-reached}
 use Rattle.machine.proofs.Stores.{set-put, set-all, actions-set, place-some}
-use Rattle.committing.specs.Committed.{releases, resultBy, branchTo, placeBy, lockedBy}
+use Rattle.committing.specs.Committed.{releases, Acquired, resultBy, branchTo, placeBy, lockedBy}
 use Rattle.committing.proofs.Inputs.{branch-input, sync-input, sync-test, order-input, result-inputs}
 
-module _ (c : Case) (s : State) (p k e : ℕ) where
-  result-is : (i : Instr) → resultOf c s p k e i ≡ resultBy (orZero (itemValue c s e)) (input c s p k e 0) (input c s p k e 1) i
+module _ (c : Case) (one : OneState) (p k e : ℕ) where
+  abbrev here : State
+  here = view c one
+
+  abbrev order₀ : Order
+  order₀ = one .order
+
+  result-is : (i : Instr) → resultOf c here p k e i ≡ resultBy (orZero (itemValue c here e)) (input c here p k e 0) (input c here p k e 1) i
   result-is Empty = refl
   result-is (Read d a) = refl
   result-is (Write a b) = refl
@@ -44,36 +52,36 @@ module _ (c : Case) (s : State) (p k e : ℕ) where
   result-is (Release a) = refl
 
   -- the state after the commit of an action a
-  abbrev committedBy : Action → State
+  abbrev committedBy : Action → OneState
   committedBy a =
       record {
-        count = s .count;
-        actions = put (s .actions) k (record {
+        count = here .count;
+        actions = put (here .actions) k (record {
           proc = a .proc;
           place = a .place;
           instr = a .instr;
           inputs = a .inputs;
           loc = a .loc;
-          result = some (resultBy (orZero (itemValue c s e)) (inputOf s a 0) (inputOf s a 1) (a .instr));
+          result = some (resultBy (orZero (itemValue c here e)) (inputOf here a 0) (inputOf here a 1) (a .instr));
         });
-        places = cond (branching (kindOf a)) (put (s .places) p (some (cond (eqb (inputOf s a 0) 0) (suc (a .place)) (labelOf (a .instr))))) (s .places);
-        names = s .names;
-        holders = cond (syncs (kindOf a)) (put (s .holders) (inputOf s a 0) (cond (acquiring (kindOf a)) (some p) none)) (s .holders);
-        orders = λ l. joinedIf (ltb l (c .locs) && acquiring (kindOf a)) (s .orders l) (8 + k) (8 + s .count) (releases s (inputOf s a 0));
+        places = cond (branching (kindOf a)) (put (here .places) p (some (cond (eqb (inputOf here a 0) 0) (suc (a .place)) (labelOf (a .instr))))) (here .places);
+        names = here .names;
+        holders = cond (syncs (kindOf a)) (put (here .holders) (inputOf here a 0) (cond (acquiring (kindOf a)) (some p) none)) (here .holders);
+        order = joinedIf (acquiring (kindOf a)) order₀ (8 + k) (8 + here .count) (releases here (inputOf here a 0));
       }
 
-  committed-is : committed c s p k e ≡ committedBy (s .actions k)
-  unfolding committed
+  committed-is : committedOne c one p k e ≡ committedBy (here .actions k)
+  unfolding committed committedOne
   committed-is =
-      let a = s .actions k in
+      let a = here .actions k in
       let u = result-is (a .instr) in
       λ j. record {
-        count = s .count;
-        actions = put (s .actions) k (record { proc = a .proc; place = a .place; instr = a .instr; inputs = a .inputs; loc = a .loc; result = some (u j) });
+        count = here .count;
+        actions = put (here .actions) k (record { proc = a .proc; place = a .place; instr = a .instr; inputs = a .inputs; loc = a .loc; result = some (u j) });
         places = committedBy a .places;
-        names = s .names;
+        names = here .names;
         holders = committedBy a .holders;
-        orders = committedBy a .orders;
+        order = committedBy a .order;
       }
 
 -- the place counters
@@ -162,7 +170,7 @@ module _ (c : Case) (m : Machine) (p k src : ℕ) (v : Valid c m) (go : stepCode
   pub commit-there : k < m .issued
   commit-there = can .there
 
-  pub commit-entry : ValidEntry e
+  pub commit-entry : ValidEntry c e
   commit-entry = v .entries k commit-there
 
   self-is : s .actions k ≡ shownEntry c e
@@ -178,15 +186,17 @@ module _ (c : Case) (m : Machine) (p k src : ℕ) (v : Valid c m) (go : stepCode
       right true b h k = k
       right false b h k = absurd (false≢true h)
 
-  module _ (rows : List ℕ) (long : length rows ≡ 448)
-      (ho : (l : ℕ) → orderOf rows l ≡ joinedIf (ltb l (c .locs) && acquiring (kind (e .instr))) (orderOf (m .rows) l) (8 + k) (8 + m .issued) (releases s first)) where
+  module _ (rows : List ℕ) (long : length rows ≡ 56) (ho : orderOf rows ≡ joinedIf (acquiring (kind (e .instr))) (orderOf (m .rows)) (8 + k) (8 + m .issued) (releases s first)) where
     abbrev after : Machine
     after = settled m p k (placeBy (kind (e .instr)) (getD (m .places) p 0) first (e .place) (e .instr)) (lockedBy (kind (e .instr)) (m .holders) first p) (doneBy e (resultBy value first second (e .instr))) rows
 
-    shows : shown c after ≡ committed c s p k src
-    shows =
+    -- the one order is kept as the rules with one order say
+    kept : shownOne c after ≡ afterOne c (shownOne c m) (commit p k src)
+    unfolding afterOne
+    kept =
         let i = e .instr in
         let q = kind i in
+        let one = shownOne c m in
         let inside : k < length (m .acts) = omega (arith, v .acts-long, v .issued, commit-there) in
         let room : p < length (m .places) = omega (arith, v .places-long, commit-low) in
         let r = result-inputs c s (e .first) (e .second) value i in
@@ -194,9 +204,13 @@ module _ (c : Case) (m : Machine) (p k src : ℕ) (v : Valid c m) (go : stepCode
         let w = places-set (m .places) p (e .place) (labelOf i) first room (commit-entry .place) (label-small i (commit-entry .fine)) (branching q)
         ∙ branch-input c s (e .first) (e .second) (λ n. put (s .places) p (some (cond (eqb n 0) (suc (e .place)) (labelOf i)))) (s .places) i in
         let h = holders-set (m .holders) first p (v .holders-long) (syncs q) (acquiring q) sync-below ∙ sync-input c s (e .first) (e .second) (λ n. put (s .holders) n (cond (acquiring q) (some p) none)) (s .holders) i in
-        let o : orderOf rows ≡ committedBy c s p k src (shownEntry c e) .orders = fun-ext (λ (l : ℕ). ho l ∙ order-input c s (e .first) (e .second) (ltb l (c .locs)) (orderOf (m .rows) l) (8 + k) (8 + m .issued) (releases s) i) in
-        let whole : shown c after ≡ committedBy c s p k src (shownEntry c e) = λ j. record { count = m .issued; actions = a j; places = w j; names = s .names; holders = h j; orders = o j } in
-        whole ∙ ap (committedBy c s p k src) (sym self-is) ∙ sym (committed-is c s p k src)
+        let o : orderOf rows ≡ committedBy c one p k src (shownEntry c e) .order = ho ∙ order-input c s (e .first) (e .second) (orderOf (m .rows)) (8 + k) (8 + m .issued) (releases s) i in
+        let whole : shownOne c after ≡ committedBy c one p k src (shownEntry c e) = λ j. record { count = m .issued; actions = a j; places = w j; names = s .names; holders = h j; order = o j } in
+        whole ∙ ap (committedBy c one p k src) (sym self-is) ∙ sym (committed-is c one p k src)
+
+    shows : shown c after ≡ committed c s p k src
+    unfolding afterStep
+    shows = after-shows c m after (commit p k src) (v .reached) go kept
 
     valid : Valid c after
     valid =
@@ -211,18 +225,18 @@ module _ (c : Case) (m : Machine) (p k src : ℕ) (v : Valid c m) (go : stepCode
           holders-long = holders-long (m .holders) first p (v .holders-long) (syncs (kind i)) (acquiring (kind i));
           rows-long = long;
           places = set-all ValidPlace (m .places) 0 4 p _ room (place-valid (m .places) p (e .place) (labelOf i) first room (commit-entry .place) (label-small i (commit-entry .fine)) (branching (kind i)) (v .places p commit-low)) (λ q h n. v .places q h);
-          entries = set-all ValidEntry (m .acts) blankEntry (m .issued) k _ (omega (arith, v .acts-long, v .issued, commit-there)) (record { fine = commit-entry .fine; place = commit-entry .place; loc = commit-entry .loc }) (λ q h n. v .entries q h);
+          entries = set-all (ValidEntry c) (m .acts) blankEntry (m .issued) k _ (omega (arith, v .acts-long, v .issued, commit-there)) (record { fine = commit-entry .fine; place = commit-entry .place; loc = commit-entry .loc; present = commit-entry .present }) (λ q h n. v .entries q h);
+          reached = after-reached c m after (commit p k src) (v .reached) go kept;
         }
 
-  pub settled-is : (q x place result : ℕ) (holders rows : List ℕ) → q ≡ kind (e .instr) → x ≡ first → length rows ≡ 448
-      → ((l : ℕ) → orderOf rows l ≡ joinedIf (ltb l (c .locs) && acquiring q) (orderOf (m .rows) l) (8 + k) (8 + m .issued) (releases s x))
+  pub settled-is : (q x place result : ℕ) (holders rows : List ℕ) → q ≡ kind (e .instr) → x ≡ first → Acquired (m .issued) (m .acts) q x (8 + k) (m .rows) rows
       → place ≡ placeBy q (getD (m .places) p 0) x (e .place) (e .instr) → holders ≡ lockedBy q (m .holders) x p → result ≡ resultBy value x second (e .instr)
       → (shown c (settled m p k place holders (doneBy e result) rows) ≡ committed c s p k src) × Valid c (settled m p k place holders (doneBy e result) rows)
-  settled-is q x place result holders rows hq hx long ho hp hh hr =
+  settled-is q x place result holders rows hq hx ho hp hh hr =
       let i = e .instr in
-      let qo : (l : ℕ) → orderOf rows l ≡ joinedIf (ltb l (c .locs) && acquiring (kind i)) (orderOf (m .rows) l) (8 + k) (8 + m .issued) (releases s first) = λ l. ho l ∙ (λ j. joinedIf (ltb l (c .locs) && acquiring (hq j)) (orderOf (m .rows) l) (8 + k) (8 + m .issued) (releases s (hx j))) in
+      let qo : orderOf rows ≡ joinedIf (acquiring (kind i)) (orderOf (m .rows)) (8 + k) (8 + m .issued) (releases s first) = ho .joins c s (record { count = refl; actions = refl }) ∙ (λ j. joinedIf (acquiring (hq j)) (orderOf (m .rows)) (8 + k) (8 + m .issued) (releases s (hx j))) in
       let qp = hp ∙ (λ j. placeBy (hq j) (getD (m .places) p 0) (hx j) (e .place) i) in
       let qh = hh ∙ (λ j. lockedBy (hq j) (m .holders) (hx j) p) in
       let qr = hr ∙ (λ j. resultBy value (hx j) second i) in
-      let path : settled m p k place holders (doneBy e result) rows ≡ after rows long qo = λ j. settled m p k (qp j) (qh j) (doneBy e (qr j)) rows in
-      subst (λ (n : Machine). (shown c n ≡ committed c s p k src) × Valid c n) (sym path) (shows rows long qo, valid rows long qo)
+      let path : settled m p k place holders (doneBy e result) rows ≡ after rows (ho .size) qo = λ j. settled m p k (qp j) (qh j) (doneBy e (qr j)) rows in
+      subst (λ (n : Machine). (shown c n ≡ committed c s p k src) × Valid c n) (sym path) (shows rows (ho .size) qo, valid rows (ho .size) qo)

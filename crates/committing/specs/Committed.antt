@@ -1,9 +1,10 @@
 -- A commit in the words of the arrays. Assumes nothing.
+use mathlib.Core.Path.{_≡_}
 use mathlib.Core.Bool.{Bool, false, _&&_, not, cond}
 use mathlib.Core.List.{List, [], _∷_}
 use Prim.Native.Nat.{ℕ, _+_, _%_, _<_}
 use lib.Dec.{eqb, leb}
-use lib.ListN.{getD, set}
+use lib.ListN.{length, getD, set}
 use Rattle.words.specs.Small.{isNone, is, any, someBelow}
 use Rattle.words.specs.Refusals.{Refusal, _when_}
 use Rattle.cases.specs.declared.Case.{Case}
@@ -11,14 +12,16 @@ use Rattle.cases.specs.declared.Instr.{Instr}
 use Rattle.cases.specs.declared.Instr.the-variants.{Empty, Read, Write, Local, Branch, Goto, Acquire, Release}
 use Rattle.rules.specs.Kinds.{reading, branching, acquiring, releasing, syncs, labelOf, evaluate, heldBy}
 use Rattle.rules.specs.State.{State, Action, kindOf, waiting, valueOf, inputOf, itemIs}
+use Rattle.rules.specs.Order.{joinedIf}
 use Rattle.rules.specs.Commit.{visible, barred}
+use Rattle.orders.specs.Rows.{orderOf}
 use Rattle.machine.specs.declared.Entry.{Entry}
-use Rattle.machine.specs.Shown.{blankEntry}
+use Rattle.machine.specs.Shown.{blankEntry, Acts}
 use Rattle.machine.specs.Valid.{ValidEntry}
 
 -- The first n entries are valid.
-abbrev pub Entries : ℕ → List Entry → Type 0
-Entries n acts = (k : ℕ) → k < n → ValidEntry (getD acts k blankEntry)
+abbrev pub Entries : Case → ℕ → List Entry → Type 0
+Entries c n acts = (k : ℕ) → k < n → ValidEntry c (getD acts k blankEntry)
 
 -- An action of the queue of processor p holds back the commit of a kind at a location.
 abbrev pub holding : ℕ → ℕ → ℕ → Action → Bool
@@ -27,6 +30,11 @@ holding p kind loc a = waiting p a && heldBy kind (kindOf a) (eqb (a .loc) loc)
 -- The items of the committed releases of location l.
 abbrev pub releases : State → ℕ → ℕ → Bool
 releases s l i = itemIs false (λ a. releasing (kindOf a) && is l (a .result)) s i
+
+-- The rows once the item of an acquire stands after the committed releases of its location x; those of any other kind are kept.
+pub record Acquired (n : ℕ) (acts : List Entry) (kind x item : ℕ) (old new : List ℕ) : Type 0 where
+  pub size : length new ≡ 56
+  pub joins : (c : Case) (s : State) → Acts c n acts s → orderOf new ≡ joinedIf (acquiring kind) (orderOf old) item (8 + n) (releases s x)
 
 -- The refusals after 26, of action k, which is a.
 abbrev pub restRefusals : Case → State → ℕ → ℕ → ℕ → Action → List Refusal

@@ -5,23 +5,23 @@ use cases::Instr;
 use machine::Entry;
 use machine::Machine;
 ghost use mathlib.Core.Path.{_≡_};
-ghost use mathlib.Core.Bool.{Bool, true, _&&_, not, cond};
+ghost use mathlib.Core.Bool.{true, _&&_, not};
 ghost use mathlib.Core.List.{[], _∷_};
 ghost use Prim.Native.Nat.{ℕ, _+_, _≤_, _<_};
-ghost use lib.Dec.{eqb, ltb};
+ghost use lib.Dec.{eqb};
 ghost use lib.ListN.{length, getD, set};
 ghost use Rattle.words.specs.Small.{is, isNone, orZero, any, someBelow};
 ghost use Rattle.words.specs.Refusals.{_when_, firstOf};
 ghost use Rattle.cases.specs.declared.Case.{Case as TheCase};
-ghost use Rattle.rules.specs.Kinds.{reading, writing, acquiring, releasing, reads, labelOf};
-ghost use Rattle.rules.specs.Order.{joinedIf};
+ghost use Rattle.rules.specs.Kinds.{reading, writing, releasing, reads, labelOf};
 ghost use Rattle.rules.specs.State.{State, kindOf, valueOf};
 ghost use Rattle.rules.specs.Commit.{writes as writesOf, visible, barred, commitRefusals, committed as committedOf};
 ghost use Rattle.rules.specs.Step.{commit as commitStep, stepCode};
+ghost use Rattle.oneorder.specs.OneOrder.{standsIn};
 ghost use Rattle.orders.specs.Rows.{orderOf, SetOf};
-ghost use Rattle.machine.specs.Shown.{holderOf, nameOf, shownEntry, shown, Acts};
-ghost use Rattle.machine.specs.Valid.{Valid};
-ghost use Rattle.committing.specs.Committed.{Entries, holding, releases, restRefusals, resultBy, branchTo, placeBy, lockedBy};
+ghost use Rattle.machine.specs.Shown.{holderOf, nameOf, shownEntry, shown, ordersOf, Acts};
+ghost use Rattle.machine.specs.Valid.{Valid, ValidEntry};
+ghost use Rattle.committing.specs.Committed.{Entries, holding, releases, Acquired, restRefusals, resultBy, branchTo, placeBy, lockedBy};
 
 // Whether a queued entry of processor p holds back the commit of a kind at a location.
 fn holds(e: Entry, p: usize, kind: u8, loc: u8) -> bool
@@ -79,19 +79,19 @@ fn writes(acts: [Entry; 48], issued: usize, l: usize, w: usize) -> bool
 }
 
 // Whether a write item of location l stands after item w and before item i.
-fn hidden(acts: [Entry; 48], rows: &[u64; 448], issued: usize, l: usize, i: usize, w: usize) -> bool
+fn hidden(acts: [Entry; 48], rows: &[u64; 56], issued: usize, l: usize, i: usize, w: usize) -> bool
     requires { ⌜ (issued ≤ 48) × (length acts ≡ 48) × (l < 8) ⌝ }
-    ensures { λ r. ⌜ ((c : TheCase) (s : State) → Acts c issued acts s → r ≡ someBelow (8 + s .count) (λ v. writesOf s l v && (orderOf (now (rows .entry)) l w v && orderOf (now (rows .entry)) l v i))) ⌝ }
+    ensures { λ r. ⌜ ((c : TheCase) (s : State) → Acts c issued acts s → r ≡ someBelow (8 + s .count) (λ v. writesOf s l v && (orderOf (now (rows .entry)) w v && orderOf (now (rows .entry)) v i))) ⌝ }
 {
-    let a = orders::before(rows, l, w, l);
-    let b = orders::before(rows, l, l, i);
+    let a = orders::before(rows, w, l);
+    let b = orders::before(rows, l, i);
     let mut found = a & b;
     let mut k: usize = 0;
     while k < issued {
         let e = acts[k];
         let x = writes_at(e, l);
-        let a = orders::before(rows, l, w, 8 + k);
-        let b = orders::before(rows, l, 8 + k, i);
+        let a = orders::before(rows, w, 8 + k);
+        let b = orders::before(rows, 8 + k, i);
         found = (x & (a & b)) | found;
         k += 1;
     }
@@ -102,19 +102,19 @@ fn hidden(acts: [Entry; 48], rows: &[u64; 448], issued: usize, l: usize, i: usiz
 fn sees(
     c: Case,
     acts: [Entry; 48],
-    rows: &[u64; 448],
+    rows: &[u64; 56],
     issued: usize,
     l: usize,
     i: usize,
     w: usize,
 ) -> bool
     requires { ⌜ (issued ≤ 48) × (length acts ≡ 48) × (l < 8) ⌝ }
-    ensures { λ r. ⌜ ((s : State) → Acts c issued acts s → s .orders ≡ orderOf (now (rows .entry)) → r ≡ visible c s l i w) ⌝ }
+    ensures { λ r. ⌜ ((s : State) → Acts c issued acts s → s .orders ≡ ordersOf c (s .actions) (now (rows .entry)) → l < c .locs → standsIn (s .actions) l i ≡ true → r ≡ visible c s l i w) ⌝ }
 {
     let x = writes(acts, issued, l, w);
     let v = machine::item_value(c, acts, issued, w);
     let h = hidden(acts, rows, issued, l, i, w);
-    let d = orders::before(rows, l, i, w);
+    let d = orders::before(rows, i, w);
     ((x & v.known) & !h) & !d
 }
 
@@ -185,7 +185,7 @@ pub fn barred_by(h: u8, kind: u8, p: usize) -> bool
 fn sight_code(
     c: Case,
     acts: [Entry; 48],
-    rows: &[u64; 448],
+    rows: &[u64; 56],
     issued: usize,
     kind: u8,
     loc: u8,
@@ -193,7 +193,7 @@ fn sight_code(
     src: usize,
 ) -> u8
     requires { ⌜ (issued ≤ 48) × (length acts ≡ 48) × (loc < 8) ⌝ }
-    ensures { λ r. ⌜ ((s : State) → Acts c issued acts s → s .orders ≡ orderOf (now (rows .entry)) → r ≡ firstOf (32 when (reading kind && not (visible c s loc i src)) ∷ [])) ⌝ }
+    ensures { λ r. ⌜ ((s : State) → Acts c issued acts s → s .orders ≡ ordersOf c (s .actions) (now (rows .entry)) → (reading kind ≡ true → (loc < c .locs) × (standsIn (s .actions) loc i ≡ true)) → r ≡ firstOf (32 when (reading kind && not (visible c s loc i src)) ∷ [])) ⌝ }
 {
     if kind == 1 {
         let l = words::wide(loc);
@@ -208,7 +208,7 @@ fn sight_code(
 fn rest_code<'a>(
     c: Case,
     acts: [Entry; 48],
-    rows: &'a [u64; 448],
+    rows: &'a [u64; 56],
     holders: &'a [u8; 8],
     issued: usize,
     e: Entry,
@@ -216,8 +216,8 @@ fn rest_code<'a>(
     k: usize,
     src: usize,
 ) -> u8
-    requires { ⌜ (issued ≤ 48) × (length acts ≡ 48) × (length (now holders) ≡ 8) × (p < 4) × (k < issued) × (e .loc < 8) ⌝ }
-    ensures { λ r. ⌜ ((s : State) → Acts c issued acts s → s .orders ≡ orderOf (now (rows .entry)) → s .holders ≡ (λ l. holderOf (getD (now (holders .entry)) l 0)) → r ≡ firstOf (restRefusals c s p k src (shownEntry c e))) ⌝ }
+    requires { ⌜ (issued ≤ 48) × (length acts ≡ 48) × (length (now holders) ≡ 8) × (p < 4) × (k < issued) × ValidEntry c e ⌝ }
+    ensures { λ r. ⌜ ((s : State) → Acts c issued acts s → s .orders ≡ ordersOf c (s .actions) (now (rows .entry)) → s .actions k ≡ shownEntry c e → s .holders ≡ (λ l. holderOf (getD (now (holders .entry)) l 0)) → r ≡ firstOf (restRefusals c s p k src (shownEntry c e))) ⌝ }
 {
     let i = e.instr;
     let kind = rules::kind_of(i);
@@ -245,15 +245,15 @@ fn rest_code<'a>(
 pub fn commit_code<'a>(
     c: Case,
     acts: [Entry; 48],
-    rows: &'a [u64; 448],
+    rows: &'a [u64; 56],
     holders: &'a [u8; 8],
     issued: usize,
     p: usize,
     k: usize,
     src: usize,
 ) -> u8
-    requires { ⌜ (issued ≤ 48) × (length acts ≡ 48) × (length (now holders) ≡ 8) × (p < 4) × Entries issued acts ⌝ }
-    ensures { λ r. ⌜ ((s : State) → Acts c issued acts s → s .orders ≡ orderOf (now (rows .entry)) → s .holders ≡ (λ l. holderOf (getD (now (holders .entry)) l 0)) → r ≡ firstOf (commitRefusals c s p k src)) ⌝ }
+    requires { ⌜ (issued ≤ 48) × (length acts ≡ 48) × (length (now holders) ≡ 8) × (p < 4) × Entries c issued acts ⌝ }
+    ensures { λ r. ⌜ ((s : State) → Acts c issued acts s → s .orders ≡ ordersOf c (s .actions) (now (rows .entry)) → s .holders ≡ (λ l. holderOf (getD (now (holders .entry)) l 0)) → r ≡ firstOf (commitRefusals c s p k src)) ⌝ }
 {
     if issued <= k {
         return 26;
@@ -371,35 +371,21 @@ fn released(acts: [Entry; 48], issued: usize, x: usize) -> u64
     items
 }
 
-// Puts an item after the items of a set, all below n, in the order of each location.
-fn join_each(rows: &mut [u64; 448], item: usize, items: u64, n: usize, locs: u8)
-    requires { ⌜ (item < 56) × (n ≤ 56) × (length (now rows) ≡ 448) × (locs ≤ 8) ⌝ }
-    ensures { λ _. ⌜ (length (now (rows .exit)) ≡ 448) × ((P : ℕ → Bool) → SetOf n P items → (l : ℕ) → orderOf (now (rows .exit)) l ≡ joinedIf (ltb l locs && true) (orderOf (now (rows .entry)) l) item n P) ⌝ }
-{
-    let top = words::wide(locs);
-    let mut l: usize = 0;
-    while l < top {
-        orders::join(rows, l, item, items, n);
-        l += 1;
-    }
-}
-
 // Puts an acquire's item after the committed releases of its location x.
 fn order_acquire(
-    rows: &mut [u64; 448],
+    rows: &mut [u64; 56],
     acts: [Entry; 48],
     issued: usize,
     kind: u8,
     x: usize,
     item: usize,
-    locs: u8,
 )
-    requires { ⌜ (issued ≤ 48) × (length acts ≡ 48) × (item < 56) × (length (now rows) ≡ 448) × (locs ≤ 8) ⌝ }
-    ensures { λ _. ⌜ (length (now (rows .exit)) ≡ 448) × ((c : TheCase) (s : State) → Acts c issued acts s → (l : ℕ) → orderOf (now (rows .exit)) l ≡ joinedIf (ltb l locs && acquiring kind) (orderOf (now (rows .entry)) l) item (8 + issued) (releases s x)) ⌝ }
+    requires { ⌜ (issued ≤ 48) × (length acts ≡ 48) × (item < 56) × (length (now rows) ≡ 56) ⌝ }
+    ensures { λ _. ⌜ Acquired issued acts kind x item (now (rows .entry)) (now (rows .exit)) ⌝ }
 {
     if kind == 6 {
         let items = released(acts, issued, x);
-        join_each(rows, item, items, 8 + issued, locs);
+        orders::join(rows, item, items, 8 + issued);
     }
 }
 
@@ -422,7 +408,7 @@ pub fn commit(c: Case, m: Machine, p: usize, k: usize, src: usize) -> Machine
     let holders = m.holders;
     let locks = locked_by(kind, holders, w, p);
     let mut n = m;
-    order_acquire(&mut n.rows, acts, issued, kind, w, 8 + k, c.locs);
+    order_acquire(&mut n.rows, acts, issued, kind, w, 8 + k);
     n.acts[k] = Entry {
         done: true,
         result,

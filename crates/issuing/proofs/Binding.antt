@@ -17,7 +17,7 @@ use Rattle.cases.specs.declared.Instr.the-variants.{Empty, Read, Write, Local, 
 use Rattle.cases.specs.declared.Expr.{Expr}
 use Rattle.cases.specs.declared.Expr.the-variants.{Constant, Sum, Difference, Equal}
 use Rattle.rules.specs.Kinds.{reads, kind, accesses}
-use Rattle.rules.specs.State.{State, Name, start, valueOf}
+use Rattle.rules.specs.State.{State, Name, start, valueOf, kindOf}
 use Rattle.rules.specs.Issue.{here, next, address, newAction}
 use Rattle.machine.specs.Shown.{nameOf, namesOf, inputsOf, shownEntry}
 use Rattle.machine.specs.Fit.{Fine, FineExpr}
@@ -96,6 +96,13 @@ module _ (c : Case) (s : State) (p : ℕ) (few : c .locs ≤ 8) (low : (accesses
 
   pub fresh-is : fresh s p (here c s p) (next c s p) ≡ newAction c s p
   fresh-is = let u = small (accesses (kind (next c s p))) (orZero (address c s p)) low .0 in λ j. record { proc = p; place = here c s p; instr = next c s p; inputs = map (s .names p) (reads (next c s p)); loc = u j; result = none }
+
+  pub new-present : accesses (kindOf (newAction c s p)) ≡ true → newAction c s p .loc < c .locs
+  new-present = below (accesses (kind (next c s p))) (orZero (address c s p)) low
+    where
+      below : (b : Bool) (x : ℕ) → (b && leb (c .locs) x) ≡ false → b ≡ true → cond b x 0 < c .locs
+      below true x h k = leb-false (c .locs) x h
+      below false x h k = absurd (false≢true k)
 
   pub new-low : newAction c s p .loc < 8
   new-low = small (accesses (kind (next c s p))) (orZero (address c s p)) low .1

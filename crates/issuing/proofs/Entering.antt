@@ -17,22 +17,24 @@ use Rattle.cases.specs.declared.Case.{Case}
 use Rattle.cases.specs.declared.Instr.{Instr}
 use Rattle.cases.specs.declared.Instr.the-variants.{Empty, Read, Write, Local, Branch, Goto, Acquire, Release}
 use Rattle.cases.specs.Case.{countOf, instrAt}
-use Rattle.rules.specs.Kinds.{assigns}
+use Rattle.rules.specs.Kinds.{accesses, assigns}
 use Rattle.rules.specs.Order.{joinedIf}
-use Rattle.rules.specs.State.{Name, given, Action, standsAt}
-use Rattle.rules.specs.Issue.{placeAfter, renamed, earlier, newAction, issued}
-use Rattle.rules.specs.Step.{issue, stepCode}
+use Rattle.rules.specs.State.{Name, given, Action, kindOf}
+use Rattle.rules.specs.Issue.{placeAfter, renamed, newAction, issued}
+use Rattle.rules.specs.Step.{issue, stepCode, after as afterStep}
 use Rattle.rules.proofs.Accepted.{CanIssue, can-issue}
+use Rattle.oneorder.specs.OneOrder.{OneState, hasItem, issuedOne, afterOne}
 use Rattle.orders.specs.Rows.{orderOf}
 use Rattle.orders.proofs.Reached.{ltb-next}
 use Rattle.machine.specs.declared.Entry.{Entry}
 use Rattle.machine.specs.declared.Machine.{Machine}
-use Rattle.machine.specs.Shown.{shownEntry, blankEntry, actionsOf, shown, nameOf, namesOf, placeOf}
+use Rattle.machine.specs.Shown.{shownEntry, blankEntry, shownOne, shown, nameOf, namesOf, placeOf}
 use Rattle.machine.specs.Fit.{Fine}
 use Rattle.machine.specs.Valid.{Valid, ValidEntry, ValidPlace}
+use Rattle.machine.proofs.Ordered.{after-shows, after-reached}
 use Rattle.machine.proofs.Stores.{set-put, set-all, actions-set, place-some}
-use Rattle.issuing.specs.Issued.{assignedBy, placeBy, fresh, entered, Entered}
-use Rattle.issuing.proofs.Binding.{fresh-is, new-low}
+use Rattle.issuing.specs.Issued.{assignedBy, placeBy, fresh, after, Ordered, Entering}
+use Rattle.issuing.proofs.Binding.{fresh-is, new-low, new-present}
 
 next-place : (n : ℕ) → n < 12 → (placeOf (n + 1) ≡ some (suc n)) × ValidPlace (n + 1)
 next-place n h = (place-some (n + 1) (λ e. omega arith) ∙ ap some (add-one n), inr (omega arith))
@@ -124,33 +126,22 @@ names-none c names p k d i f q le = put-same (namesOf c names) p ∙ sym (ap (λ
 abbrev grown : Machine → ℕ → ℕ → List ℕ → Entry → List ℕ → Machine
 grown m p place names e rows = record { issued = m .issued + 1; places = set (m .places) p place; names = names; holders = m .holders; acts = set (m .acts) (m .issued) e; rows = rows }
 
-module _ (c : Case) (m : Machine) (p place : ℕ) (names : List ℕ) (e : Entry) (rows : List ℕ) (v : Valid c m) (low : p < 4) (room : m .issued < 48) (ok : ValidEntry e) where
-  actions-grown : actionsOf c (m .issued + 1) (set (m .acts) (m .issued) e) ≡ put (actionsOf c (m .issued) (m .acts)) (m .issued) (shownEntry c e)
-  actions-grown = actions-set c (m .issued) (m .issued + 1) (m .issued) (m .acts) e (omega arith) (omega (arith, v .acts-long)) (λ k h. ltb-next k (m .issued) h)
+-- the state with the action a of processor p issued
+abbrev entered : Case → Machine → ℕ → Action → OneState
+entered c m p a =
+    let s = shown c m in
+    record {
+      count = suc (s .count);
+      actions = put (s .actions) (s .count) a;
+      places = put (s .places) p (placeAfter (a .instr) (a .place));
+      names = put (s .names) p (renamed (s .names p) (assigns (a .instr)) (given (s .count)));
+      holders = s .holders;
+      order = joinedIf (hasItem a) (orderOf (m .rows)) (8 + s .count) (8 + s .count) (after p a s);
+    }
 
-  pub grown-is : place ≡ placeBy (e .instr) (e .place) → namesOf c names ≡ put (namesOf c (m .names)) p (renamed (namesOf c (m .names) p) (assigns (e .instr)) (given (m .issued))) → length names ≡ 32
-      → ((l : ℕ) → orderOf rows l ≡ joinedIf (ltb l (c .locs) && standsAt l (shownEntry c e)) (orderOf (m .rows) l) (8 + m .issued) (8 + m .issued) (earlier c (shown c m) p l)) → length rows ≡ 448
-      → Entered c m p e (grown m p place names e rows)
-  grown-is hp hn ln ho lr =
-      let at = place-by (e .instr) (e .place) (ok .fine) (ok .place) in
-      let n = add-one (m .issued) in
-      let u = actions-grown in
-      let w = set-put placeOf (m .places) 0 p place (placeAfter (e .instr) (e .place)) (omega (arith, v .places-long)) (ap placeOf hp ∙ at .0) in
-      let o = fun-ext ho in
-      record {
-        shows = λ j. record { count = n j; actions = u j; places = w j; names = hn j; holders = shown c m .holders; orders = o j };
-        valid = record {
-          fit = v .fit;
-          issued = omega arith;
-          acts-long = length-set (m .acts) (m .issued) e ∙ v .acts-long;
-          places-long = length-set (m .places) p place ∙ v .places-long;
-          names-long = ln;
-          holders-long = v .holders-long;
-          rows-long = lr;
-          places = set-all ValidPlace (m .places) 0 4 p place (omega (arith, v .places-long)) (subst ValidPlace (sym hp) (at .1)) (λ q h n. v .places q h);
-          entries = set-all ValidEntry (m .acts) blankEntry (m .issued + 1) (m .issued) e (omega (arith, v .acts-long)) ok (λ q h n. v .entries q (omega arith));
-        };
-      }
+entered-is : (c : Case) (m : Machine) (p : ℕ) → entered c m p (newAction c (shown c m) p) ≡ afterOne c (shownOne c m) (issue p)
+unfolding issued issuedOne afterOne
+entered-is c m p = refl
 
 -- an accepted issue
 module _ (c : Case) (m : Machine) (p : ℕ) (v : Valid c m) (go : stepCode c (shown c m) (issue p) ≡ 0) where
@@ -185,13 +176,52 @@ module _ (c : Case) (m : Machine) (p : ℕ) (v : Valid c m) (go : stepCode c (sh
       ∙ ap (λ (o : Option ℕ). fresh (shown c m) p (orZero o) (instrAt c p (orZero o))) (sym there)
       ∙ fresh-is c (shown c m) p (v .fit .locs) (can .low)
 
-  pub issue-entry : (e : Entry) → shownEntry c e ≡ fresh (shown c m) p at (instrAt c p at) → ValidEntry e
+  pub issue-entry : (e : Entry) → shownEntry c e ≡ fresh (shown c m) p at (instrAt c p at) → ValidEntry c e
   issue-entry e h = record {
     fine = subst Fine (sym (ap (λ (a : Action). a .instr) h)) issue-fine;
     place = omega (arith, ap (λ (a : Action). a .place) h, issue-inside, v .fit .counts p);
     loc = omega (arith, ap (λ (a : Action). a .loc) (issue-new e h), new-low c (shown c m) p (v .fit .locs) (can .low));
+    present = λ a. subst (λ (l : ℕ). l < c .locs) (sym (ap (λ (x : Action). x .loc) (issue-new e h))) (new-present c (shown c m) p (v .fit .locs) (can .low) (subst (λ (x : Action). accesses (kindOf x) ≡ true) (issue-new e h) a));
   }
 
-  pub issue-shows : (e : Entry) (r : Machine) → shownEntry c e ≡ fresh (shown c m) p at (instrAt c p at) → Entered c m p e r → (shown c r ≡ issued c (shown c m) p) × Valid c r
-  unfolding issued
-  issue-shows e r h u = (u .shows ∙ ap (entered c (shown c m) p) (issue-new e h), u .valid)
+module _ (c : Case) (m : Machine) (p place : ℕ) (names : List ℕ) (e : Entry) (rows : List ℕ) (E : Entering c m p e names) (hp : place ≡ placeBy (e .instr) (e .place)) (o : Ordered (m .issued) (m .acts) p e (m .rows) rows) where
+  abbrev v : Valid c m
+  v = E .valid
+
+  abbrev low : p < 4
+  low = issue-low c m p v (E .fits)
+
+  abbrev room : m .issued < 48
+  room = issue-room c m p v (E .fits)
+
+  abbrev at-place : (placeOf (placeBy (e .instr) (e .place)) ≡ placeAfter (e .instr) (e .place)) × ValidPlace (placeBy (e .instr) (e .place))
+  at-place = place-by (e .instr) (e .place) (E .entry .fine) (E .entry .place)
+
+  -- the one order is kept as the rules with one order say
+  grown-one : shownOne c (grown m p place names e rows) ≡ afterOne c (shownOne c m) (issue p)
+  grown-one =
+      let n = add-one (m .issued) in
+      let u = actions-set c (m .issued) (m .issued + 1) (m .issued) (m .acts) e (omega arith) (omega (arith, v .acts-long, room)) (λ k h. ltb-next k (m .issued) h) in
+      let w = set-put placeOf (m .places) 0 p place (placeAfter (e .instr) (e .place)) (omega (arith, v .places-long, low)) (ap placeOf hp ∙ at-place .0) in
+      let j = o .joins c (shown c m) (record { count = refl; actions = refl }) in
+      let h = E .renames in
+      let whole : shownOne c (grown m p place names e rows) ≡ entered c m p (shownEntry c e) = λ i. record { count = n i; actions = u i; places = w i; names = h i; holders = shown c m .holders; order = j i } in
+      whole ∙ ap (entered c m p) (E .new) ∙ entered-is c m p
+
+  pub grown-is : (shown c (grown m p place names e rows) ≡ issued c (shown c m) p) × Valid c (grown m p place names e rows)
+  unfolding afterStep
+  grown-is = (
+    after-shows c m (grown m p place names e rows) (issue p) (v .reached) (E .fits) grown-one,
+    record {
+      fit = v .fit;
+      issued = omega (arith, room);
+      acts-long = length-set (m .acts) (m .issued) e ∙ v .acts-long;
+      places-long = length-set (m .places) p place ∙ v .places-long;
+      names-long = E .names-long;
+      holders-long = v .holders-long;
+      rows-long = o .size;
+      places = set-all ValidPlace (m .places) 0 4 p place (omega (arith, v .places-long, low)) (subst ValidPlace (sym hp) (at-place .1)) (λ q h n. v .places q h);
+      entries = set-all (ValidEntry c) (m .acts) blankEntry (m .issued + 1) (m .issued) e (omega (arith, v .acts-long, room)) (E .entry) (λ q h n. v .entries q (omega arith));
+      reached = after-reached c m (grown m p place names e rows) (issue p) (v .reached) (E .fits) grown-one;
+    },
+  )

@@ -1,3 +1,4 @@
 pub mod Binding
 pub mod Refusing
 pub mod Entering
+pub mod Ordering

@@ -1,23 +1,26 @@
 -- An issue in the words of the arrays. Assumes nothing.
 use mathlib.Core.Path.{_≡_}
-use mathlib.Core.Bool.{cond, _&&_}
-use mathlib.Core.List.{map}
+use mathlib.Core.Bool.{Bool, cond, _&&_}
+use mathlib.Core.List.{List, map}
 use mathlib.Core.Option.{none}
-use Prim.Native.Nat.{ℕ, suc, _+_, _%_}
-use lib.Dec.{ltb}
-use lib.ListN.{getD}
+use Prim.Native.Nat.{ℕ, _+_, _%_}
+use lib.Dec.{eqb}
+use lib.ListN.{length, getD}
 use Rattle.words.specs.Small.{orZero, put}
 use Rattle.cases.specs.declared.Case.{Case}
 use Rattle.cases.specs.declared.Instr.{Instr}
 use Rattle.cases.specs.declared.Instr.the-variants.{Empty, Read, Write, Local, Branch, Goto, Acquire, Release}
 use Rattle.rules.specs.Kinds.{kind, accesses, reads, assigns}
 use Rattle.rules.specs.Order.{joinedIf}
-use Rattle.rules.specs.State.{State, Action, start, given, valueOf, standsAt}
-use Rattle.rules.specs.Issue.{placeAfter, renamed, earlier}
+use Rattle.rules.specs.State.{State, Action, start, given, valueOf, itemIs, standsAt}
+use Rattle.rules.specs.Issue.{renamed, newAction}
+use Rattle.rules.specs.Step.{issue, stepCode}
+use Rattle.oneorder.specs.OneOrder.{hasItem}
+use Rattle.orders.specs.Rows.{orderOf}
 use Rattle.machine.specs.declared.Entry.{Entry}
 use Rattle.machine.specs.declared.Machine.{Machine}
-use Rattle.machine.specs.Shown.{shown, shownEntry}
-use Rattle.machine.specs.Valid.{Valid}
+use Rattle.machine.specs.Shown.{namesOf, shown, shownEntry, Acts}
+use Rattle.machine.specs.Valid.{Valid, ValidEntry}
 
 -- The register that an instruction assigns; 8 where it assigns none.
 abbrev pub assignedBy : Instr → ℕ
@@ -53,18 +56,20 @@ fresh s p place i =
       result = none;
     }
 
--- The state s with the action a of processor p issued.
-abbrev pub entered : Case → State → ℕ → Action → State
-entered c s p a =
-    record {
-      count = suc (s .count);
-      actions = put (s .actions) (s .count) a;
-      places = put (s .places) p (placeAfter (a .instr) (a .place));
-      names = put (s .names) p (renamed (s .names p) (assigns (a .instr)) (given (s .count)));
-      holders = s .holders;
-      orders = λ l. joinedIf (ltb l (c .locs) && standsAt l a) (s .orders l) (8 + s .count) (8 + s .count) (earlier c s p l);
-    }
+-- The items that that of a new action of processor p stands after: the initial writes of the locations where it stands, all earlier items of p.
+abbrev pub after : ℕ → Action → State → ℕ → Bool
+after p new s e = itemIs (standsAt e new) (λ a. eqb (a .proc) p && hasItem a) s e
 
-pub record Entered (c : Case) (m : Machine) (p : ℕ) (e : Entry) (r : Machine) : Type 0 where
-  pub shows : shown c r ≡ entered c (shown c m) p (shownEntry c e)
-  pub valid : Valid c r
+-- The rows once the item of a new entry e of processor p has joined the order.
+pub record Ordered (n : ℕ) (acts : List Entry) (p : ℕ) (e : Entry) (old new : List ℕ) : Type 0 where
+  pub size : length new ≡ 56
+  pub joins : (c : Case) (s : State) → Acts c n acts s → orderOf new ≡ joinedIf (hasItem (shownEntry c e)) (orderOf old) (8 + n) (8 + n) (after p (shownEntry c e) s)
+
+-- e is the action of an issue of processor p that nothing refuses, with the names after it.
+pub record Entering (c : Case) (m : Machine) (p : ℕ) (e : Entry) (names : List ℕ) : Type 0 where
+  pub valid : Valid c m
+  pub fits : stepCode c (shown c m) (issue p) ≡ 0
+  pub new : shownEntry c e ≡ newAction c (shown c m) p
+  pub entry : ValidEntry c e
+  pub names-long : length names ≡ 32
+  pub renames : namesOf c names ≡ put (namesOf c (m .names)) p (renamed (namesOf c (m .names) p) (assigns (e .instr)) (given (m .issued)))

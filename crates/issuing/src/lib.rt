@@ -9,77 +9,80 @@ ghost use mathlib.Core.Path.{_≡_};
 ghost use mathlib.Core.Bool.{_&&_, cond};
 ghost use mathlib.Core.List.{[], _∷_};
 ghost use Prim.Native.Nat.{ℕ, _+_, _%_, _≤_, _<_};
-ghost use lib.Dec.{eqb, ltb, leb};
+ghost use lib.Dec.{eqb, leb};
 ghost use lib.ListN.{length, getD};
 ghost use Rattle.words.specs.Small.{isNone, orZero, put};
 ghost use Rattle.words.specs.Refusals.{_when_, firstOf};
 ghost use Rattle.cases.specs.declared.Case.{Case as TheCase};
 ghost use Rattle.rules.specs.Kinds.{kind, accesses, reads, assigns};
-ghost use Rattle.rules.specs.Order.{joinedIf};
-ghost use Rattle.rules.specs.State.{State, given, valueOf, standsAt};
-ghost use Rattle.rules.specs.Issue.{renamed as renamedOf, earlier as earlierOf, issueRefusals, issued as issuedOf};
+ghost use Rattle.rules.specs.State.{State, Action, given, valueOf, standsAt};
+ghost use Rattle.rules.specs.Issue.{renamed as renamedOf, issueRefusals, issued as issuedOf};
 ghost use Rattle.rules.specs.Step.{issue as issueStep, stepCode};
-ghost use Rattle.orders.specs.Rows.{orderOf, SetOf};
+ghost use Rattle.oneorder.specs.OneOrder.{hasItem};
+ghost use Rattle.orders.specs.Rows.{SetOf};
 ghost use Rattle.machine.specs.Shown.{nameOf, namesOf, placeOf, shownValue, shownEntry, shown, Acts};
 ghost use Rattle.machine.specs.Fit.{Fine, Fit};
-ghost use Rattle.machine.specs.Valid.{Valid, ValidEntry};
-ghost use Rattle.issuing.specs.Issued.{assignedBy, placeBy, fresh, Entered};
+ghost use Rattle.machine.specs.Valid.{Valid};
+ghost use Rattle.issuing.specs.Issued.{assignedBy, placeBy, fresh, after, Ordered, Entering};
 
-// Whether the entry has an item in the order of location l.
-fn stands(e: Entry, l: usize) -> bool
-    ensures { λ r. ⌜ ((c : TheCase) → r ≡ standsAt l (shownEntry c e)) ⌝ }
+// Whether the entry has an item in the order.
+fn has_item(e: Entry) -> bool
+    ensures { λ r. ⌜ ((c : TheCase) → r ≡ hasItem (shownEntry c e)) ⌝ }
 {
     let i = e.instr;
-    let loc = words::wide(e.loc);
     let k = rules::kind_of(i);
-    ((k == 6) | (k == 7)) | (((k == 1) | (k == 2)) & (loc == l))
+    ((k == 6) | (k == 7)) | ((k == 1) | (k == 2))
 }
 
 // Whether that item is one of processor p.
-fn own(e: Entry, p: usize, l: usize) -> bool
-    ensures { λ r. ⌜ ((c : TheCase) → r ≡ (eqb (shownEntry c e .proc) p && standsAt l (shownEntry c e))) ⌝ }
+fn own(e: Entry, p: usize) -> bool
+    ensures { λ r. ⌜ ((c : TheCase) → r ≡ (eqb (shownEntry c e .proc) p && hasItem (shownEntry c e))) ⌝ }
 {
     let proc = words::wide(e.proc);
-    let s = stands(e, l);
+    let s = has_item(e);
     (proc == p) & s
 }
 
-// The items that a new one of processor p stands after, in the order of location l.
-fn earlier(acts: [Entry; 48], issued: usize, p: usize, l: usize) -> u64
-    requires { ⌜ (issued ≤ 48) × (length acts ≡ 48) × (l < 8) ⌝ }
-    ensures { λ r. ⌜ ((c : TheCase) (s : State) → Acts c issued acts s → SetOf (8 + issued) (earlierOf c s p l) r) ⌝ }
+// The initial writes of the locations where the entry's item stands.
+fn initial_writes(e: Entry) -> u64
+    requires { ⌜ e .loc < 8 ⌝ }
+    ensures { λ r. ⌜ ((c : TheCase) → SetOf 8 (λ l. standsAt l (shownEntry c e)) r) ⌝ }
 {
-    let mut items = words::one(l);
+    let i = e.instr;
+    let k = rules::kind_of(i);
+    if (k == 6) | (k == 7) {
+        return 255;
+    }
+    if (k == 1) | (k == 2) {
+        return words::one(words::wide(e.loc));
+    }
+    0
+}
+
+// The items that a new one of processor p stands after: some initial writes, and all earlier items of p.
+fn earlier(acts: [Entry; 48], issued: usize, p: usize, writes: u64) -> u64
+    requires { ⌜ (issued ≤ 48) × (length acts ≡ 48) ⌝ }
+    ensures { λ r. ⌜ ((c : TheCase) (s : State) (new : Action) → Acts c issued acts s → SetOf 8 (λ l. standsAt l new) writes → SetOf (8 + issued) (after p new s) r) ⌝ }
+{
+    let mut items = writes;
     let mut k: usize = 0;
     while k < issued {
         let e = acts[k];
-        let test = own(e, p, l);
+        let test = own(e, p);
         items = orders::with(items, 8 + k, test);
         k += 1;
     }
     items
 }
 
-// The item of a new entry e of processor p joins the order of each location that it stands in.
-fn join_orders(
-    rows: &mut [u64; 448],
-    acts: [Entry; 48],
-    issued: usize,
-    p: usize,
-    e: Entry,
-    locs: u8,
-)
-    requires { ⌜ (issued < 48) × (length acts ≡ 48) × (length (now rows) ≡ 448) × (locs ≤ 8) ⌝ }
-    ensures { λ _. ⌜ (length (now (rows .exit)) ≡ 448) × ((c : TheCase) (s : State) → Acts c issued acts s → (l : ℕ) → orderOf (now (rows .exit)) l ≡ joinedIf (ltb l locs && standsAt l (shownEntry c e)) (orderOf (now (rows .entry)) l) (8 + issued) (8 + issued) (earlierOf c s p l)) ⌝ }
+// The item of a new entry e of processor p joins the order.
+fn join_order(rows: &mut [u64; 56], acts: [Entry; 48], issued: usize, p: usize, e: Entry)
+    requires { ⌜ (issued < 48) × (length acts ≡ 48) × (length (now rows) ≡ 56) × (e .loc < 8) ⌝ }
+    ensures { λ _. ⌜ Ordered issued acts p e (now (rows .entry)) (now (rows .exit)) ⌝ }
 {
-    let top = words::wide(locs);
-    let mut l: usize = 0;
-    while l < top {
-        if stands(e, l) {
-            let items = earlier(acts, issued, p, l);
-            orders::join(rows, l, 8 + issued, items, 8 + issued);
-        }
-        l += 1;
+    if has_item(e) {
+        let items = earlier(acts, issued, p, initial_writes(e));
+        orders::join(rows, 8 + issued, items, 8 + issued);
     }
 }
 
@@ -270,17 +273,17 @@ fn renamed(names: [u8; 32], p: usize, i: Instr, k: usize) -> [u8; 32]
     n
 }
 
-// Enters e, of processor p, as the next action; the names are those after it.
+// Enters e, the action of an issue of processor p that nothing refuses; the names are those after it.
 fn enter(c: Case, m: Machine, p: usize, e: Entry, names: [u8; 32]) -> Machine
-    requires { ⌜ Valid c m × (p < 4) × (m .issued < 48) × ValidEntry e × (length names ≡ 32) × (namesOf c names ≡ put (namesOf c (m .names)) p (renamedOf (namesOf c (m .names) p) (assigns (e .instr)) (given (m .issued)))) ⌝ }
-    ensures { λ r. ⌜ Entered c m p e r ⌝ }
+    requires { ⌜ Entering c m p e names ⌝ }
+    ensures { λ r. ⌜ (shown c r ≡ issuedOf c (shown c m) p) × Valid c r ⌝ }
 {
     let k = m.issued;
     let acts = m.acts;
     let i = e.instr;
     let place = place_after(i, e.place);
     let mut n = m;
-    join_orders(&mut n.rows, acts, k, p, e, c.locs);
+    join_order(&mut n.rows, acts, k, p, e);
     n.acts[k] = e;
     n.issued = k + 1;
     n.places[p] = place;

@@ -5,3 +5,4 @@ pub mod Listing
 pub mod Answers
 pub mod Starting
 pub mod Fits
+pub mod Ordered

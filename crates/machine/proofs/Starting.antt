@@ -1,25 +1,30 @@
 -- The machine of the start shows the initial state. Assumes nothing.
-use mathlib.Core.Path.{_≡_, refl, ap, fun-ext}
+use mathlib.Core.Path.{_≡_, refl, sym, _∙_, ap, subst, fun-ext}
 use mathlib.Core.Logic.{inr}
-use mathlib.Core.Bool.{Bool, true, false, cond, _&&_}
+use mathlib.Core.Bool.{false, cond}
 use mathlib.Core.List.{List}
 use mathlib.Core.Option.{none, some}
 use Prim.Native.Nat.{ℕ, zero, suc, _+_, _*_, _-_, _/_, _%_, _≤_, _<_}
 use native.Mathlib.Omega.{arith}
 use native.Mathlib.Decide.{decLt}
 use lib.Dec.{eqb, ltb}
-use lib.ListN.{getD, replicate, length-replicate}
+use lib.ListN.{getD, replicate}
 use borrow.Author.Tests.{lt-ltb, le-ltb, eqb-true}
 use Rattle.words.specs.Small.{counting}
+use Rattle.words.proofs.Bools.{and-right}
 use Rattle.words.proofs.Sets.{has-zero}
 use Rattle.cases.specs.declared.Case.{Case}
 use Rattle.cases.specs.Case.{presetOf}
 use Rattle.rules.specs.State.{start, unissued, initial}
 use Rattle.words.proofs.Lists.{all-below}
+use Rattle.runs.specs.Reachable.{Reachable}
+use Rattle.runs.proofs.Reachable.{reachable-start}
+use Rattle.oneorder.specs.OneOrder.{view, initialOne, wommOne}
+use Rattle.oneorder.proofs.OneOrder.{view-initial}
 use Rattle.orders.specs.Rows.{orderOf}
 use Rattle.machine.specs.declared.Entry.{Entry}
 use Rattle.machine.specs.declared.Machine.{Machine}
-use Rattle.machine.specs.Shown.{shown, namesOf, actionsOf}
+use Rattle.machine.specs.Shown.{shownOne, shown, namesOf, actionsOf}
 use Rattle.machine.specs.Fit.{Fit}
 use Rattle.machine.specs.Valid.{Valid}
 
@@ -34,14 +39,9 @@ same-everywhere zero a i = refl
 same-everywhere (suc n) a zero = refl
 same-everywhere (suc n) a (suc i) = same-everywhere n a i
 
-no-order : (l a b : ℕ) → orderOf (replicate 448 0) l a b ≡ false
+no-order : (a b : ℕ) → orderOf (replicate 56 0) a b ≡ false
 unfolding orderOf
-no-order l a b = rw (same-everywhere 448 0 (56 * l + b), has-zero a) (and-no (ltb l 8) (ltb b 56))
-  where
-    and-no : (x y : Bool) → (x && y && false) ≡ false
-    and-no true true = refl
-    and-no true false = refl
-    and-no false y = refl
+no-order a b = rw (same-everywhere 56 0 b, has-zero a) (and-right (ltb b 56) false refl)
 
 start-name : (c : Case) (p k : ℕ) → namesOf c numbers p k ≡ start (presetOf c p k)
 start-name c p k = elim (decLt p 4) [ yes h ↦ elim (decLt k 8) [ yes q ↦ inside h q | no q ↦ past h (omega arith) ] | no h ↦ absent (omega arith) ]
@@ -62,16 +62,19 @@ no-action : (c : Case) (acts : List Entry) (k : ℕ) → actionsOf c 0 acts k �
 no-action c acts k = rw (le-ltb k 0 (omega arith))
 
 abbrev begun : Entry → Machine
-begun e = record { issued = 0; places = replicate 4 0; names = numbers; holders = replicate 8 0; acts = replicate 48 e; rows = replicate 448 0 }
+begun e = record { issued = 0; places = replicate 4 0; names = numbers; holders = replicate 8 0; acts = replicate 48 e; rows = replicate 56 0 }
 
-pub begun-shows : (c : Case) (e : Entry) → shown c (begun e) ≡ initial c
-begun-shows c e =
+begun-one : (c : Case) (e : Entry) → shownOne c (begun e) ≡ initialOne c
+begun-one c e =
     let a = fun-ext (no-action c (replicate 48 e)) in
     let p = fun-ext (λ (q : ℕ). ap (λ (n : ℕ). cond (eqb n 255) none (some n)) (same-everywhere 4 0 q)) in
     let n = fun-ext (λ (q : ℕ). fun-ext (start-name c q)) in
-    let h : shown c (begun e) .holders ≡ initial c .holders = fun-ext (λ (l : ℕ). ap (λ (n : ℕ). cond (eqb n 0) none (some (n - 1))) (same-everywhere 8 0 l)) in
-    let o = fun-ext (λ (l : ℕ). fun-ext (λ (a : ℕ). fun-ext (no-order l a))) in
-    λ j. record { count = 0; actions = a j; places = p j; names = n j; holders = h j; orders = o j }
+    let h : shownOne c (begun e) .holders ≡ initialOne c .holders = fun-ext (λ (l : ℕ). ap (λ (n : ℕ). cond (eqb n 0) none (some (n - 1))) (same-everywhere 8 0 l)) in
+    let o = fun-ext (λ (a : ℕ). fun-ext (no-order a)) in
+    λ j. record { count = 0; actions = a j; places = p j; names = n j; holders = h j; order = o j }
+
+pub begun-shows : (c : Case) (e : Entry) → shown c (begun e) ≡ initial c
+begun-shows c e = ap (view c) (begun-one c e) ∙ view-initial c
 
 pub begun-valid : (c : Case) (e : Entry) → Fit c → Valid c (begun e)
 begun-valid c e f = record {
@@ -81,7 +84,8 @@ begun-valid c e f = record {
   places-long = refl;
   names-long = refl;
   holders-long = refl;
-  rows-long = length-replicate {A = ℕ} 448 0;
+  rows-long = refl;
   places = λ p h. inr (omega (arith, same-everywhere 4 0 p));
   entries = λ k h. absurd (omega arith);
+  reached = subst (Reachable (wommOne c)) (sym (begun-one c e)) (reachable-start (wommOne c));
 }

@@ -11,6 +11,8 @@ use Rattle.cases.specs.declared.Instr.the-variants.{Empty}
 use Rattle.cases.specs.Case.{presetOf}
 use Rattle.rules.specs.Kinds.{reads}
 use Rattle.rules.specs.State.{Name, start, given, Action, State, unissued}
+use Rattle.rules.specs.Order.{Order}
+use Rattle.oneorder.specs.OneOrder.{OneState, limited, view}
 use Rattle.orders.specs.Rows.{orderOf}
 use Rattle.machine.specs.declared.Entry.{Entry}
 use Rattle.machine.specs.declared.Value.{Value}
@@ -64,16 +66,25 @@ holderOf n = cond (eqb n 0) none (some (n - 1))
 abbrev pub namesOf : Case → List ℕ → ℕ → ℕ → Name
 namesOf c names p k = cond (ltb p 4 && ltb k 8) (nameOf c (getD names (8 * p + k) 0)) (start (presetOf c p k))
 
-abbrev pub shown : Case → Machine → State
-shown c m =
+-- The machine with one order over all items.
+abbrev pub shownOne : Case → Machine → OneState
+shownOne c m =
     record {
       count = m .issued;
       actions = actionsOf c (m .issued) (m .acts);
       places = λ p. placeOf (getD (m .places) p 0);
       names = namesOf c (m .names);
       holders = λ l. holderOf (getD (m .holders) l 0);
-      orders = orderOf (m .rows);
+      order = orderOf (m .rows);
     }
+
+-- The state of the rules that it stands for: each location's order is taken from the one order.
+abbrev pub shown : Case → Machine → State
+shown c m = view c (shownOne c m)
+
+-- The orders of the locations, of actions A, that the rows give.
+abbrev pub ordersOf : Case → (ℕ → Action) → List ℕ → ℕ → Order
+ordersOf c A rows l a b = ltb l (c .locs) && limited A l (orderOf rows) a b
 
 -- The state s has the first n entries as its actions.
 pub record Acts (c : Case) (n : ℕ) (acts : List Entry) (s : State) : Type 0 where

@@ -1,18 +1,23 @@
 -- What holds of every machine that is reached. Assumes nothing.
 use mathlib.Core.Path.{_≡_}
+use mathlib.Core.Bool.{true}
 use mathlib.Core.Logic.{_⊎_}
 use Prim.Native.Nat.{ℕ, _≤_, _<_}
 use lib.ListN.{length, getD}
 use Rattle.cases.specs.declared.Case.{Case}
+use Rattle.runs.specs.Reachable.{Reachable}
+use Rattle.rules.specs.Kinds.{kind, accesses}
+use Rattle.oneorder.specs.OneOrder.{wommOne}
 use Rattle.machine.specs.declared.Entry.{Entry}
 use Rattle.machine.specs.declared.Machine.{Machine}
-use Rattle.machine.specs.Shown.{blankEntry}
+use Rattle.machine.specs.Shown.{blankEntry, shownOne}
 use Rattle.machine.specs.Fit.{Fine, Fit}
 
-pub record ValidEntry (e : Entry) : Type 0 where
+pub record ValidEntry (c : Case) (e : Entry) : Type 0 where
   pub fine : Fine (e .instr)
   pub place : e .place < 12
   pub loc : e .loc < 8
+  pub present : accesses (kind (e .instr)) ≡ true → e .loc < c .locs
 
 -- A place counter is undefined or at most 12.
 abbrev pub ValidPlace : ℕ → Type 0
@@ -25,6 +30,8 @@ pub record Valid (c : Case) (m : Machine) : Type 0 where
   pub places-long : length (m .places) ≡ 4
   pub names-long : length (m .names) ≡ 32
   pub holders-long : length (m .holders) ≡ 8
-  pub rows-long : length (m .rows) ≡ 448
+  pub rows-long : length (m .rows) ≡ 56
   pub places : (p : ℕ) → p < 4 → ValidPlace (getD (m .places) p 0)
-  pub entries : (k : ℕ) → k < m .issued → ValidEntry (getD (m .acts) k blankEntry)
+  pub entries : (k : ℕ) → k < m .issued → ValidEntry c (getD (m .acts) k blankEntry)
+  -- by accepted steps, of the rules with one order
+  pub reached : Reachable (wommOne c) (shownOne c m)

@@ -1,4 +1,4 @@
-// The machine in arrays: its actions, order rows and locks; its start, and what its registers and queues hold.
+// The machine in arrays: its actions, one order and locks; its start, and what its registers and queues hold.
 use cases::Case;
 use cases::Instr;
 ghost use mathlib.Core.Path.{_≡_};
@@ -26,14 +26,14 @@ pub struct Entry {
     pub result: u16,
 }
 
-// Register k of processor p has its name at 8p + k; row b of location l stands at 56l + b.
+// Register k of processor p has its name at 8p + k; row b has the items that stand before item b.
 pub struct Machine {
     pub issued: usize,
     pub places: [u8; 4],
     pub names: [u8; 32],
     pub holders: [u8; 8],
     pub acts: [Entry; 48],
-    pub rows: [u64; 448],
+    pub rows: [u64; 56],
 }
 
 // A value, where it is known.
@@ -264,6 +264,6 @@ pub fn start(c: Case) -> Machine
         names: FIRST,
         holders: [0; 8],
         acts: [e; 48],
-        rows: [0; 448],
+        rows: [0; 56],
     }
 }

@@ -1,4 +1,4 @@
-// The orders of the locations, as rows of sets of items.
+// One order over all items, as rows of sets.
 ghost use mathlib.Core.Path.{_≡_};
 ghost use mathlib.Core.Bool.{Bool, _&&_};
 ghost use Prim.Native.Nat.{ℕ, _+_, _≤_, _<_};
@@ -7,24 +7,23 @@ ghost use Rattle.words.specs.Sets.{has as inSet};
 ghost use Rattle.rules.specs.Order.{upTo};
 ghost use Rattle.orders.specs.Rows.{orderOf, joinedRow, SetOf, Reaches, JoinedTo, Joined};
 
-// Whether item a stands before item b in the order of location l.
-pub fn before(rows: &[u64; 448], l: usize, a: usize, b: usize) -> bool
-    requires { ⌜ l < 8 ⌝ }
-    ensures { λ r. ⌜ r ≡ orderOf (now (rows .entry)) l a b ⌝ }
+// Whether item a stands before item b.
+pub fn before(rows: &[u64; 56], a: usize, b: usize) -> bool
+    ensures { λ r. ⌜ r ≡ orderOf (now (rows .entry)) a b ⌝ }
 {
     if 56 <= b {
         return false;
     }
-    let row = rows[56 * l + b];
+    let row = rows[b];
     words::has(row, a)
 }
 
 // Item e and what stands before it.
-fn up_to(rows: &[u64; 448], l: usize, e: usize) -> u64
-    requires { ⌜ (l < 8) × (e < 56) ⌝ }
-    ensures { λ r. ⌜ ((a : ℕ) → inSet r a ≡ upTo (orderOf (now (rows .entry)) l) a e) ⌝ }
+fn up_to(rows: &[u64; 56], e: usize) -> u64
+    requires { ⌜ e < 56 ⌝ }
+    ensures { λ r. ⌜ ((a : ℕ) → inSet r a ≡ upTo (orderOf (now (rows .entry))) a e) ⌝ }
 {
-    let row = rows[56 * l + e];
+    let row = rows[e];
     words::one(e) | row
 }
 
@@ -41,16 +40,16 @@ fn joined_row(row: u64, b: usize, i: usize, mask: u64) -> u64
     row
 }
 
-// Puts the mask before item i of location l and before every item after it.
-fn spread(rows: &mut [u64; 448], l: usize, i: usize, mask: u64)
-    requires { ⌜ (l < 8) × (length (now rows) ≡ 448) ⌝ }
-    ensures { λ _. ⌜ (length (now (rows .exit)) ≡ 448) × JoinedTo (now (rows .entry)) (now (rows .exit)) l i mask 56 ⌝ }
+// Puts the mask before item i and before every item after it.
+fn spread(rows: &mut [u64; 56], i: usize, mask: u64)
+    requires { ⌜ length (now rows) ≡ 56 ⌝ }
+    ensures { λ _. ⌜ (length (now (rows .exit)) ≡ 56) × JoinedTo (now (rows .entry)) (now (rows .exit)) i mask 56 ⌝ }
 {
     let mut b: usize = 0;
     while b < 56 {
-        let row = rows[56 * l + b];
+        let row = rows[b];
         let new = joined_row(row, b, i, mask);
-        rows[56 * l + b] = new;
+        rows[b] = new;
         b += 1;
     }
 }
@@ -67,37 +66,37 @@ pub fn with(x: u64, n: usize, test: bool) -> u64
 }
 
 // Item e and what stands before it, where the test passes, else nothing.
-fn up_to_if(rows: &[u64; 448], l: usize, e: usize, test: bool) -> u64
-    requires { ⌜ (l < 8) × (e < 56) ⌝ }
-    ensures { λ r. ⌜ ((a : ℕ) → inSet r a ≡ (test && upTo (orderOf (now (rows .entry)) l) a e)) ⌝ }
+fn up_to_if(rows: &[u64; 56], e: usize, test: bool) -> u64
+    requires { ⌜ e < 56 ⌝ }
+    ensures { λ r. ⌜ ((a : ℕ) → inSet r a ≡ (test && upTo (orderOf (now (rows .entry))) a e)) ⌝ }
 {
     if test {
-        return up_to(rows, l, e);
+        return up_to(rows, e);
     }
     0
 }
 
-// The items of a set, all below n, and what stands before one of them in the order of location l.
-fn reach(rows: &[u64; 448], l: usize, items: u64, n: usize) -> u64
-    requires { ⌜ (l < 8) × (n ≤ 56) ⌝ }
-    ensures { λ r. ⌜ ((P : ℕ → Bool) → SetOf n P items → Reaches (orderOf (now (rows .entry)) l) n P r) ⌝ }
+// The items of a set, all below n, and what stands before one of them.
+fn reach(rows: &[u64; 56], items: u64, n: usize) -> u64
+    requires { ⌜ n ≤ 56 ⌝ }
+    ensures { λ r. ⌜ ((P : ℕ → Bool) → SetOf n P items → Reaches (orderOf (now (rows .entry))) n P r) ⌝ }
 {
     let mut mask: u64 = 0;
     let mut e: usize = 0;
     while e < n {
         let test = words::has(items, e);
-        let more = up_to_if(rows, l, e, test);
+        let more = up_to_if(rows, e, test);
         mask = more | mask;
         e += 1;
     }
     mask
 }
 
-// Puts item i of location l after the items of a set, all below n, and closes the order.
-pub fn join(rows: &mut [u64; 448], l: usize, i: usize, items: u64, n: usize)
-    requires { ⌜ (l < 8) × (i < 56) × (n ≤ 56) × (length (now rows) ≡ 448) ⌝ }
-    ensures { λ _. ⌜ Joined (now (rows .entry)) (now (rows .exit)) l i items n ⌝ }
+// Puts item i after the items of a set, all below n, and closes the order.
+pub fn join(rows: &mut [u64; 56], i: usize, items: u64, n: usize)
+    requires { ⌜ (i < 56) × (n ≤ 56) × (length (now rows) ≡ 56) ⌝ }
+    ensures { λ _. ⌜ Joined (now (rows .entry)) (now (rows .exit)) i items n ⌝ }
 {
-    let mask = reach(rows, l, items, n);
-    spread(rows, l, i, mask);
+    let mask = reach(rows, items, n);
+    spread(rows, i, mask);
 }

@@ -1,33 +1,51 @@
 -- The test of two actions from their entries and rows, and the lowest that pass it. Assumes nothing.
-use mathlib.Core.Path.{_≡_, sym, _∙_, ap, ap₂}
-use mathlib.Core.Bool.{Bool, true, false, _&&_}
+use mathlib.Core.Path.{_≡_, refl, sym, _∙_, ap, ap₂, subst}
+use mathlib.Core.Logic.{⊎-elim}
+use mathlib.Core.Bool.{Bool, true, false, not, _&&_, _||_}
 use mathlib.Core.List.{List}
 use Prim.Native.Nat.{ℕ, _+_, _≤_, _<_}
 use native.Mathlib.Omega.{arith}
-use lib.Dec.{ltb}
+use lib.Dec.{eqb, ltb}
 use lib.ListN.{getD}
-use borrow.Author.Tests.{lt-ltb, le-ltb}
-use Rattle.words.proofs.Bools.{and-make, and-right}
+use borrow.Author.Tests.{eqb-true, eq-eqb, lt-ltb, le-ltb}
+use Rattle.words.proofs.Bools.{decide, and-both, and-make, and-right, or-right}
 use Rattle.cases.specs.declared.Case.{Case}
 use Rattle.cases.proofs.Lowest.{lowest-is}
+use Rattle.rules.specs.Kinds.{writing, accesses, syncs}
 use Rattle.rules.specs.Order.{Order}
-use Rattle.rules.specs.State.{State, Action}
+use Rattle.rules.specs.State.{State, Action, kindOf}
 use Rattle.rules.proofs.Actions.{either}
+use Rattle.oneorder.specs.OneOrder.{standsIn}
+use Rattle.oneorder.proofs.OneOrder.{stands-at}
+use Rattle.oneorder.proofs.Visible.{limited-same}
+use Rattle.orders.specs.Rows.{orderOf}
 use Rattle.machine.specs.declared.Entry.{Entry}
-use Rattle.machine.specs.Shown.{shownEntry, blankEntry, Acts}
+use Rattle.machine.specs.Shown.{shownEntry, blankEntry, ordersOf, Acts}
+use Rattle.committing.specs.Committed.{Entries}
 use Rattle.machine.proofs.Entries.{action-at}
 use Rattle.races.specs.Test.{conflict, unordered, races, partner, opener, firstOfRace, secondOfRace}
 
--- two entries that meet, unordered at the location of the first
-pub races-is : (c : Case) (n : ℕ) (acts : List Entry) (s : State) → Acts c n acts s → (j k : ℕ) → j < n → k < n → (R : ℕ → Order) → s .orders ≡ R → (meet free : Bool) (l : ℕ)
-    → meet ≡ conflict (shownEntry c (getD acts j blankEntry)) (shownEntry c (getD acts k blankEntry)) → l ≡ getD acts j blankEntry .loc → free ≡ unordered (R l) j k → (meet && free) ≡ races s j k
-unfolding races
-races-is c n acts s a j k hj hk R o meet free l m e f =
-    let ej = action-at c n acts s a j hj in
-    let ek = action-at c n acts s a k hk in
-    ap₂ (λ (x y : Bool). x && y)
-    (m ∙ (λ i. conflict (sym ej i) (sym ek i)))
-    (f ∙ (λ i. unordered (sym o i ((e ∙ ap (λ (x : Action). x .loc) (sym ej)) i)) j k))
+-- two entries that meet, unordered: between reads and writes of one location its order is the one order
+module _ (c : Case) (n : ℕ) (acts : List Entry) (s : State) (a : Acts c n acts s) (rows : List ℕ) (o : s .orders ≡ ordersOf c (s .actions) rows) (e : Entries c n acts) (j k : ℕ) (hj : j < n) (hk : k < n) where
+  ej : s .actions j ≡ shownEntry c (getD acts j blankEntry)
+  ej = action-at c n acts s a j hj
+
+  same-order : conflict (s .actions j) (s .actions k) ≡ true → unordered (orderOf rows) j k ≡ unordered (s .orders (s .actions j .loc)) j k
+  same-order h =
+      let l = s .actions j .loc in
+      let w = and-both ((accesses (kindOf (s .actions j)) && accesses (kindOf (s .actions k))) && eqb l (s .actions k .loc)) (writing (kindOf (s .actions j)) || writing (kindOf (s .actions k))) h in
+      let q = and-both (accesses (kindOf (s .actions j)) && accesses (kindOf (s .actions k))) (eqb l (s .actions k .loc)) (w .0) in
+      let b = and-both (accesses (kindOf (s .actions j))) (accesses (kindOf (s .actions k))) (q .0) in
+      let low : l < c .locs = subst (λ (x : Action). x .loc < c .locs) (sym ej) (e j hj .present (sym (ap (λ (x : Action). accesses (kindOf x)) ej) ∙ b .0)) in
+      let sj = stands-at (s .actions) l j ∙ or-right (syncs (kindOf (s .actions j))) _ (and-make _ _ (b .0) (eq-eqb l l refl)) in
+      let sk = stands-at (s .actions) l k ∙ or-right (syncs (kindOf (s .actions k))) _ (and-make _ _ (b .1) (eq-eqb (s .actions k .loc) l (sym (eqb-true l (s .actions k .loc) (q .1))))) in
+      let at : (x y : ℕ) → standsIn (s .actions) l x ≡ true → standsIn (s .actions) l y ≡ true → orderOf rows x y ≡ s .orders l x y =
+      λ x y u v. sym (ap (λ (R : ℕ → Order). R l x y) o ∙ limited-same (ltb l (c .locs)) (s .actions) l (orderOf rows) x y (lt-ltb _ _ low) u v) in
+      ap₂ (λ (x y : Bool). not x && not y) (at (8 + j) (8 + k) sj sk) (at (8 + k) (8 + j) sk sj)
+
+  pub races-is : (meet free : Bool) → meet ≡ conflict (shownEntry c (getD acts j blankEntry)) (shownEntry c (getD acts k blankEntry)) → free ≡ unordered (orderOf rows) j k → (meet && free) ≡ races s j k
+  unfolding races
+  races-is meet free m f = ap₂ (λ (x y : Bool). x && y) (m ∙ (λ i. conflict (sym ej i) (sym (action-at c n acts s a k hk) i))) f ∙ ⊎-elim (λ h. ap (λ (x : Bool). conflict (s .actions j) (s .actions k) && x) (same-order h)) (λ h. rw h refl) (decide (conflict (s .actions j) (s .actions k)))
 
 -- no number up to k passes
 none-more : (f : ℕ → Bool) (k : ℕ) → ((i : ℕ) → i < k → f i ≡ false) → f k ≡ false → (i : ℕ) → i < k + 1 → f i ≡ false

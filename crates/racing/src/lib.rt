@@ -8,7 +8,7 @@ ghost use lib.ListN.{length};
 ghost use Rattle.cases.specs.declared.Case.{Case as TheCase};
 ghost use Rattle.rules.specs.State.{State};
 ghost use Rattle.orders.specs.Rows.{orderOf};
-ghost use Rattle.machine.specs.Shown.{shownEntry, shown, Acts};
+ghost use Rattle.machine.specs.Shown.{shownEntry, shown, ordersOf, Acts};
 ghost use Rattle.machine.specs.Valid.{Valid};
 ghost use Rattle.committing.specs.Committed.{Entries};
 ghost use Rattle.races.specs.Test.{conflict as conflictOf, unordered as unorderedOf, races as racesOf, partner as partnerOf, opener as openerOf, firstOfRace, secondOfRace};
@@ -45,32 +45,32 @@ fn conflict(a: Entry, b: Entry) -> bool
     (access & same) & write
 }
 
-// Whether actions j and k stand ordered neither way at location l.
-fn unordered(rows: &[u64; 448], l: usize, j: usize, k: usize) -> bool
-    requires { ⌜ (l < 8) × (j < 48) × (k < 48) ⌝ }
-    ensures { λ r. ⌜ r ≡ unorderedOf (orderOf (now (rows .entry)) l) j k ⌝ }
+// Whether actions j and k stand ordered neither way.
+fn unordered(rows: &[u64; 56], j: usize, k: usize) -> bool
+    requires { ⌜ (j < 48) × (k < 48) ⌝ }
+    ensures { λ r. ⌜ r ≡ unorderedOf (orderOf (now (rows .entry))) j k ⌝ }
 {
-    let there = orders::before(rows, l, 8 + j, 8 + k);
-    let back = orders::before(rows, l, 8 + k, 8 + j);
+    let there = orders::before(rows, 8 + j, 8 + k);
+    let back = orders::before(rows, 8 + k, 8 + j);
     !there & !back
 }
 
 // Whether actions j and k race.
-fn races(acts: [Entry; 48], rows: &[u64; 448], issued: usize, j: usize, k: usize) -> bool
-    requires { ⌜ (issued ≤ 48) × (length acts ≡ 48) × (j < issued) × (k < issued) × Entries issued acts ⌝ }
-    ensures { λ r. ⌜ ((c : TheCase) (s : State) → Acts c issued acts s → s .orders ≡ orderOf (now (rows .entry)) → r ≡ racesOf s j k) ⌝ }
+fn races(acts: [Entry; 48], rows: &[u64; 56], issued: usize, j: usize, k: usize) -> bool
+    requires { ⌜ (issued ≤ 48) × (length acts ≡ 48) × (j < issued) × (k < issued) ⌝ }
+    ensures { λ r. ⌜ ((c : TheCase) (s : State) → Acts c issued acts s → s .orders ≡ ordersOf c (s .actions) (now (rows .entry)) → Entries c issued acts → r ≡ racesOf s j k) ⌝ }
 {
     let a = acts[j];
     let b = acts[k];
     let meet = conflict(a, b);
-    let free = unordered(rows, words::wide(a.loc), j, k);
+    let free = unordered(rows, j, k);
     meet & free
 }
 
 // The lowest action after j that races with it; the number of the issued actions where none does.
-fn partner(acts: [Entry; 48], rows: &[u64; 448], issued: usize, j: usize) -> usize
-    requires { ⌜ (issued ≤ 48) × (length acts ≡ 48) × (j < issued) × Entries issued acts ⌝ }
-    ensures { λ r. ⌜ ((c : TheCase) (s : State) → Acts c issued acts s → s .orders ≡ orderOf (now (rows .entry)) → r ≡ partnerOf s j) ⌝ }
+fn partner(acts: [Entry; 48], rows: &[u64; 56], issued: usize, j: usize) -> usize
+    requires { ⌜ (issued ≤ 48) × (length acts ≡ 48) × (j < issued) ⌝ }
+    ensures { λ r. ⌜ ((c : TheCase) (s : State) → Acts c issued acts s → s .orders ≡ ordersOf c (s .actions) (now (rows .entry)) → Entries c issued acts → r ≡ partnerOf s j) ⌝ }
 {
     let mut k = j + 1;
     while k < issued {
@@ -83,9 +83,9 @@ fn partner(acts: [Entry; 48], rows: &[u64; 448], issued: usize, j: usize) -> usi
 }
 
 // The lowest action that has a partner; the number of the issued actions where none has one.
-fn opener(acts: [Entry; 48], rows: &[u64; 448], issued: usize) -> usize
-    requires { ⌜ (issued ≤ 48) × (length acts ≡ 48) × Entries issued acts ⌝ }
-    ensures { λ r. ⌜ ((c : TheCase) (s : State) → Acts c issued acts s → s .orders ≡ orderOf (now (rows .entry)) → r ≡ openerOf s) ⌝ }
+fn opener(acts: [Entry; 48], rows: &[u64; 56], issued: usize) -> usize
+    requires { ⌜ (issued ≤ 48) × (length acts ≡ 48) ⌝ }
+    ensures { λ r. ⌜ ((c : TheCase) (s : State) → Acts c issued acts s → s .orders ≡ ordersOf c (s .actions) (now (rows .entry)) → Entries c issued acts → r ≡ openerOf s) ⌝ }
 {
     let mut j: usize = 0;
     while j < issued {

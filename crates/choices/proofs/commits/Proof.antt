@@ -1,8 +1,8 @@
 use borrow.Author.Needs.{needs}
 use Rattle.spending.proofs.Rests.{no-set}
 use Rattle.spending.specs.Words.{opens}
-use Rattle.machine.specs.Shown.{holderOf, Acts}
-use Rattle.orders.specs.Rows.{orderOf, SetOf}
+use Rattle.machine.specs.Shown.{holderOf, Acts, ordersOf}
+use Rattle.orders.specs.Rows.{SetOf}
 use Rattle.rules.specs.State.{State}
 use lib.ListN.{getD}
 use native.Mathlib.Omega.{arith}
@@ -12,7 +12,7 @@ use Rattle.choices.proofs.commits.Statement.{statement}
 use Rattle.choices.proofs.commits.Tie as tie
 
 abbrev Inv-loop : tie.InvT-loop
-Inv-loop c rows holders acts issued items₀ k₀ items k = (k ≤ issued) × ((s : State) → Acts c issued acts s → s .orders ≡ orderOf rows → s .holders ≡ (λ l. holderOf (getD holders l 0)) → SetOf k (opens c s 48) items)
+Inv-loop c rows holders acts issued items₀ k₀ items k = (k ≤ issued) × ((s : State) → Acts c issued acts s → s .orders ≡ ordersOf c (s .actions) rows → s .holders ≡ (λ l. holderOf (getD holders l 0)) → SetOf k (opens c s 48) items)
 
 abbrev μ-loop : tie.MeasureT-loop
 μ-loop c rows holders acts issued items₀ k₀ items k = issued - k

@@ -11,13 +11,13 @@ use Rattle.choices.proofs.covered.Statement.{statement}
 use Rattle.choices.proofs.covered.Tie as tie
 
 abbrev Inv-loop : tie.InvT-loop
-Inv-loop rows l items n i mask₀ w₀ mask w = (w ≤ n) × ((P : ℕ → Bool) → SetOf n P items → Covers (orderOf rows l) w P i mask)
+Inv-loop rows items n i mask₀ w₀ mask w = (w ≤ n) × ((P : ℕ → Bool) → SetOf n P items → Covers (orderOf rows) w P i mask)
 
 abbrev μ-loop : tie.MeasureT-loop
-μ-loop rows l items n i mask₀ w₀ mask w = n - w
+μ-loop rows items n i mask₀ w₀ mask w = n - w
 
 loop-holds : tie.Need-loop-holds Inv-loop μ-loop
-loop-holds c = let a = c .args in (search needs, λ P h. covers-none (orderOf (a .rows .now) (a .l)) P (a .i))
+loop-holds c = let a = c .args in (search needs, λ P h. covers-none (orderOf (a .rows .now)) P (a .i))
 
 has-requires : tie.Need-has-requires Inv-loop μ-loop
 has-requires c κs = search needs
@@ -38,13 +38,13 @@ loop-again : tie.Need-loop-again Inv-loop μ-loop
 loop-again c =
     let at = c .before .before .before .before in
     let a = at .before .args in
-    (search needs, λ P h. covers-more (orderOf (a .rows .now) (a .l)) P (a .i) (at .loop .w) (at .loop .mask) (c .row-if .result) (c .before .before .has .result) (c .before .before2 .result) (at .loop .inv .1 P h) (c .before .before .has .ensures ∙ set-at (a .n) P (a .items) h (at .loop .w) (omega arith)) (c .before .before2 .ensures) (c .row-if .ensures))
+    (search needs, λ P h. covers-more (orderOf (a .rows .now)) P (a .i) (at .loop .w) (at .loop .mask) (c .row-if .result) (c .before .before .has .result) (c .before .before2 .result) (at .loop .inv .1 P h) (c .before .before .has .ensures ∙ set-at (a .n) P (a .items) h (at .loop .w) (omega arith)) (c .before .before2 .ensures) (c .row-if .ensures))
 
 returns : tie.Need-returns Inv-loop μ-loop
 returns c =
     let a = c .before .before .args in
     let q : c .before .loop .w ≡ a .n = omega arith in
-    λ P h. subst (λ (n : ℕ). Covers (orderOf (a .rows .now) (a .l)) n P (a .i) (c .before .loop .mask)) q (c .before .loop .inv .1 P h)
+    λ P h. subst (λ (n : ℕ). Covers (orderOf (a .rows .now)) n P (a .i) (c .before .loop .mask)) q (c .before .loop .inv .1 P h)
 
 pub covered-spec : {M : Type 1} → statement M
 covered-spec =

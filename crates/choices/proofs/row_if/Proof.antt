@@ -6,17 +6,11 @@ use Rattle.choices.proofs.row_if.Tie as tie
 mul-result : tie.Need-mul-result
 mul-result c = search needs
 
-add-result : tie.Need-add-result
-add-result c = search needs
-
-mul-result-2 : tie.Need-mul-result-2
-mul-result-2 c = search needs
-
 element-copy-out-result : tie.Need-element-copy-out-result
 element-copy-out-result c = search needs
 
 returns : tie.Need-returns
-returns c = let a = c .before .before .args in λ x. row-is (a .rows .now) (a .l) x (a .w) (a .test) (c .before .before .pre .0) (c .before .before .pre .1) (c .before .if1 .taken)
+returns c = let a = c .before .before .args in λ x. row-is (a .rows .now) x (a .w) (a .test) (c .before .before .pre) (c .before .if1 .taken)
 
 returns-2 : tie.Need-returns-2
 returns-2 c = let a = c .before .args in λ x. row-none x (a .test) _ (c .if1 .left)
@@ -24,4 +18,4 @@ returns-2 c = let a = c .before .args in λ x. row-none x (a .test) _ (c .if1 .l
 pub row-if-spec : {M : Type 1} → statement M
 row-if-spec =
     tie.close
-    (tie.spec mul-result add-result mul-result-2 element-copy-out-result returns returns-2)
+    (tie.spec mul-result element-copy-out-result returns returns-2)

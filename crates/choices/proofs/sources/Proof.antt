@@ -1,7 +1,11 @@
-use Rattle.choices.proofs.Opens.{read-shut, read-open}
+use Rattle.choices.proofs.Opens.{ready-reads, read-shut, read-open}
+use Rattle.oneorder.specs.OneOrder.{standsIn}
+use Rattle.machine.specs.Shown.{blankEntry}
+use Rattle.committing.proofs.Refusing.{read-stands}
+use lib.ListN.{getD}
 use Rattle.machine.proofs.Entries.{action-at}
 use Rattle.rules.specs.Commit.{visible}
-use Rattle.rules.specs.State.{Action}
+use Rattle.rules.specs.State.{Action, kindOf}
 use borrow.Author.Tests.{not-true, not-false}
 use native.Mathlib.Omega.{arith}
 use Prim.Native.Nat.{ℕ, _+_, _-_}
@@ -43,9 +47,12 @@ returns-2 c =
     let a = b .args in
     λ s h o e.
     let z = sym (action-at (a .c) (a .issued) (a .t3) s h (a .k) (b .pre .2)) in
-    c .visible-items .ensures (a .c) s h o e
-    ∙ ap (λ (l : ℕ). visible (a .c) s l (8 + a .k) e) (c .before .wide .ensures .0 ∙ ap (λ (x : Action). x .loc) z)
-    ∙ sym (read-open (a .c) s (a .k) e (omega (arith, b .pre .0, b .pre .2)) (omega (arith, b .pre .2, h .count)) (sym (c .before .before .before .before .read-ready .ensures s h) ∙ not-false (c .before .before .before .before .read-ready .result) (c .before .before .before .if1 .left)))
+    let ready = sym (c .before .before .before .before .read-ready .ensures s h) ∙ not-false (c .before .before .before .before .read-ready .result) (c .before .before .before .if1 .left) in
+    let x = read-stands (a .c) s (getD (a .t3) (a .k) blankEntry) (a .k) (kindOf (s .actions (a .k))) (b .pre .3 (a .k) (b .pre .2)) (sym z) (ap kindOf (sym z)) (ready-reads (a .c) s (a .k) ready) in
+    let w = c .before .wide .ensures .0 in
+    c .visible-items .ensures (a .c) s h o (omega (arith, w, x .0)) (ap (λ (l : ℕ). standsIn (s .actions) l (8 + a .k)) w ∙ x .1) e
+    ∙ ap (λ (l : ℕ). visible (a .c) s l (8 + a .k) e) (w ∙ ap (λ (x : Action). x .loc) z)
+    ∙ sym (read-open (a .c) s (a .k) e (omega (arith, b .pre .0, b .pre .2)) (omega (arith, b .pre .2, h .count)) ready)
 
 pub sources-spec : {M : Type 1} → statement M
 sources-spec =

@@ -2,8 +2,7 @@ use mathlib.Core.Logic.{⊎-elim}
 use borrow.Author.Needs.{needs}
 use Rattle.choices.proofs.Answers.{NoSure, no-sure, sure-test, sure-refused, sure-other, sure-here, sure-nowhere}
 use Rattle.machine.proofs.Entries.{action-at}
-use Rattle.machine.specs.Shown.{holderOf, Acts}
-use Rattle.orders.specs.Rows.{orderOf}
+use Rattle.machine.specs.Shown.{holderOf, Acts, ordersOf}
 use Rattle.rules.specs.State.{State, kindOf}
 use lib.ListN.{getD}
 use native.Mathlib.Omega.{arith}
@@ -13,7 +12,7 @@ use Rattle.choices.proofs.sure_commit.Statement.{statement}
 use Rattle.choices.proofs.sure_commit.Tie as tie
 
 abbrev Inv-loop : tie.InvT-loop
-Inv-loop c rows holders issued acts k₀ k = (k ≤ issued) × ((s : State) → Acts c issued acts s → s .orders ≡ orderOf rows → s .holders ≡ (λ l. holderOf (getD holders l 0)) → NoSure c s k)
+Inv-loop c rows holders issued acts k₀ k = (k ≤ issued) × ((s : State) → Acts c issued acts s → s .orders ≡ ordersOf c (s .actions) rows → s .holders ≡ (λ l. holderOf (getD holders l 0)) → NoSure c s k)
 
 abbrev μ-loop : tie.MeasureT-loop
 μ-loop c rows holders issued acts k₀ k = issued - k

@@ -10,13 +10,13 @@ use Rattle.choices.proofs.uncovered.Statement.{statement}
 use Rattle.choices.proofs.uncovered.Tie as tie
 
 abbrev Inv-loop : tie.InvT-loop
-Inv-loop rows l items gone n i seen₀ e₀ seen e = (e ≤ n) × SetOf e (λ x. has items x && not (has gone x) && not (orderOf rows l i x)) seen
+Inv-loop rows items gone n i seen₀ e₀ seen e = (e ≤ n) × SetOf e (λ x. has items x && not (has gone x) && not (orderOf rows i x)) seen
 
 abbrev μ-loop : tie.MeasureT-loop
-μ-loop rows l items gone n i seen₀ e₀ seen e = n - e
+μ-loop rows items gone n i seen₀ e₀ seen e = n - e
 
 loop-holds : tie.Need-loop-holds Inv-loop μ-loop
-loop-holds c = let a = c .args in (search needs, no-set (λ x. has (a .items) x && not (has (a .gone) x) && not (orderOf (a .rows .now) (a .l) (a .i) x)))
+loop-holds c = let a = c .args in (search needs, no-set (λ x. has (a .items) x && not (has (a .gone) x) && not (orderOf (a .rows .now) (a .i) x)))
 
 has-requires : tie.Need-has-requires Inv-loop μ-loop
 has-requires c κs = search needs
@@ -41,7 +41,7 @@ loop-again c =
     let at = c .before .before .before .before .before in
     let a = at .before .args in (
       search needs,
-      c .with .ensures (λ x. has (a .items) x && not (has (a .gone) x) && not (orderOf (a .rows .now) (a .l) (a .i) x)) (at .loop .inv .1)
+      c .with .ensures (λ x. has (a .items) x && not (has (a .gone) x) && not (orderOf (a .rows .now) (a .i) x)) (at .loop .inv .1)
           (λ j. c .before .before .before .has .ensures j && not (c .before .before .has2 .ensures j) && not (c .before .before2 .ensures j)),
     )
 
@@ -49,7 +49,7 @@ returns : tie.Need-returns Inv-loop μ-loop
 returns c =
     let a = c .before .before .args in
     let q : c .before .loop .e ≡ a .n = omega arith in
-    subst (λ (n : ℕ). SetOf n (λ x. has (a .items) x && not (has (a .gone) x) && not (orderOf (a .rows .now) (a .l) (a .i) x)) (c .before .loop .seen)) q (c .before .loop .inv .1)
+    subst (λ (n : ℕ). SetOf n (λ x. has (a .items) x && not (has (a .gone) x) && not (orderOf (a .rows .now) (a .i) x)) (c .before .loop .seen)) q (c .before .loop .inv .1)
 
 pub uncovered-spec : {M : Type 1} → statement M
 uncovered-spec =

@@ -25,7 +25,7 @@ uncovered-requires c κs = search needs
 returns : tie.Need-returns
 returns c =
     let a = c .before .before .before .before .args in
-    λ k s h o. visible-is k (a .issued) (a .acts) s h (a .rows .now) o (a .l) (a .i) (c .before .before .given-items .result) (c .before .covered .result) (c .uncovered .result) (c .before .before .given-items .ensures k s h) (c .before .covered .ensures (writes s (a .l)) (c .before .before .before .write-items .ensures k s h)) (c .uncovered .ensures)
+    λ k s h o m q. visible-is k (a .issued) (a .acts) s h (a .rows .now) o (a .l) (a .i) m q (c .before .before .given-items .result) (c .before .covered .result) (c .uncovered .result) (c .before .before .given-items .ensures k s h) (c .before .covered .ensures (writes s (a .l)) (c .before .before .before .write-items .ensures k s h)) (c .uncovered .ensures)
 
 pub visible-items-spec : {M : Type 1} → statement M
 visible-items-spec =

@@ -52,7 +52,7 @@ order-acquire-requires : tie.Need-order-acquire-requires
 order-acquire-requires c κs =
     let b = c .before .before .before .before .before .before .before .before .before .before .before .before .before in
     let v = b .pre .0 in
-    (v .issued, v .acts-long, omega (arith, v .issued, commit-there (b .args .c) (b .args .t2) (b .args .p) (b .args .k) (b .args .src) v (b .pre .1)), v .rows-long, v .fit .locs)
+    (v .issued, v .acts-long, omega (arith, v .issued, commit-there (b .args .c) (b .args .t2) (b .args .p) (b .args .k) (b .args .src) v (b .pre .1)), v .rows-long)
 
 mul-t21 : tie.Need-mul-t21
 mul-t21 c = let b = c .before .before .before .before .before .before .before .before .before .before .before .before .before .before in let q = commit-there (b .args .c) (b .args .t2) (b .args .p) (b .args .k) (b .args .src) (b .pre .0) (b .pre .1) in omega (arith, b .pre .0 .issued)
@@ -73,7 +73,7 @@ returns c =
     let z = c .before .before .before .before .before .before .before .before .before .or-zero .ensures ∙ ap orZero (c .before .before .before .before .before .before .before .before .before .before .item-value .ensures s h) in
     let y = c .before .before .before .before .before .before .before .input2 .ensures s h in
     settled-is (a .c) (a .t2) (a .p) (a .k) (a .src) v (b .pre .1) (c .before .before .before .before .before .before .before .before .before .before .before .kind-of .result) (c .before .before .before .before .before .before .before .before .input .result) (c .before .before .before .before .place-by .result) (c .before .before .before .before .before .before .result-by .result) (c .before .before .locked-by .result) (c .order-acquire .last .0)
-    (c .before .before .before .before .before .before .before .before .before .before .before .kind-of .ensures .0) (c .before .before .before .before .before .before .before .before .input .ensures s h) (c .order-acquire .ensures .0) (c .order-acquire .ensures .1 (a .c) s h) (c .before .before .before .before .place-by .ensures) (c .before .before .locked-by .ensures)
+    (c .before .before .before .before .before .before .before .before .before .before .before .kind-of .ensures .0) (c .before .before .before .before .before .before .before .before .input .ensures s h) (c .order-acquire .ensures) (c .before .before .before .before .place-by .ensures) (c .before .before .locked-by .ensures)
     (c .before .before .before .before .before .before .result-by .ensures ∙ (λ j. resultBy (z j) (c .before .before .before .before .before .before .before .before .input .result) (y j) (getD (a .t2 .acts) (a .k) blankEntry .instr)))
 
 pub commit-spec : {M : Type 1} → statement M

@@ -29,13 +29,15 @@ returns-2 c =
 rest-code-requires : tie.Need-rest-code-requires
 rest-code-requires c κs =
     let b = c .before .before .before .before in
-    (b .pre .0, b .pre .1, b .pre .2, b .pre .3, c .before .before .before .if1 .left, b .pre .4 (b .args .k) (c .before .before .before .if1 .left) .loc)
+    (b .pre .0, b .pre .1, b .pre .2, b .pre .3, c .before .before .before .if1 .left, b .pre .4 (b .args .k) (c .before .before .before .if1 .left))
 
 returns-3 : tie.Need-returns-3
 returns-3 c =
     let a = c .before .before .before .before .before .args in
-    λ s h o l. c .rest-code .ensures s h o l
-    ∙ commit-rest (a .c) s (a .p) (a .k) (a .src) (shownEntry (a .c) (getD (a .t2) (a .k) blankEntry)) (action-at (a .c) (a .issued) (a .t2) s h (a .k) (c .before .before .before .before .if1 .left)) (omega (arith, h .count, c .before .before .before .before .if1 .left)) (ap not (sym (c .before .before .queued .ensures (a .c))) ∙ c .before .if2 .left)
+    λ s h o l.
+    let y = action-at (a .c) (a .issued) (a .t2) s h (a .k) (c .before .before .before .before .if1 .left) in
+    c .rest-code .ensures s h o y l
+    ∙ commit-rest (a .c) s (a .p) (a .k) (a .src) (shownEntry (a .c) (getD (a .t2) (a .k) blankEntry)) y (omega (arith, h .count, c .before .before .before .before .if1 .left)) (ap not (sym (c .before .before .queued .ensures (a .c))) ∙ c .before .if2 .left)
 
 pub commit-code-spec : {M : Type 1} → statement M
 commit-code-spec =

@@ -18,7 +18,7 @@ use Rattle.committing.proofs.hidden.Statement.{statement}
 use Rattle.committing.proofs.hidden.Tie as tie
 
 abbrev Inv-loop : tie.InvT-loop
-Inv-loop rows issued l i w acts a b found₀ k₀ found k = (k ≤ issued) × ((c : Case) (s : State) → Acts c issued acts s → found ≡ someBelow (8 + k) (between s (orderOf rows l) l i w))
+Inv-loop rows issued l i w acts a b found₀ k₀ found k = (k ≤ issued) × ((c : Case) (s : State) → Acts c issued acts s → found ≡ someBelow (8 + k) (between s (orderOf rows) l i w))
 
 abbrev μ-loop : tie.MeasureT-loop
 μ-loop rows issued l i w acts a b found₀ k₀ found k = issued - k
@@ -32,7 +32,7 @@ before-requires-2 c κs = search needs
 loop-holds : tie.Need-loop-holds Inv-loop μ-loop
 loop-holds c =
     let a = c .before .before .args in
-    let R = orderOf (a .rows .now) (a .l) in
+    let R = orderOf (a .rows .now) in
     (search needs, λ k s h. rw (c .before .before2 .ensures, c .before3 .ensures) (first-passes (λ x. writing (kindOf x) && eqb (x .loc) (a .l)) s (a .l) (c .before .before .pre .2) (λ v. R (a .w) v && R v (a .i))))
 
 mul-e : tie.Need-mul-e Inv-loop μ-loop
@@ -67,7 +67,7 @@ loop-again c =
     let at = c .before .before .before .before .before in
     let a = c .before .before .before .before .before .before .before .before .args in
     let n = at .loop .k in
-    let R = orderOf (a .rows .now) (a .l) in
+    let R = orderOf (a .rows .now) in
     let q : 8 + n + 1 ≡ 8 + (n + 1) = omega arith in (
       search needs,
       λ k s h.
@@ -81,7 +81,7 @@ returns : tie.Need-returns Inv-loop μ-loop
 returns c =
     let a = c .before .before .before .before .args in
     let q : c .before .loop .k ≡ a .issued = omega arith in
-    λ k s h. subst (λ (n : ℕ). c .before .loop .found ≡ someBelow (8 + n) (between s (orderOf (a .rows .now) (a .l)) (a .l) (a .i) (a .w))) (q ∙ sym (h .count)) (c .before .loop .inv .1 k s h)
+    λ k s h. subst (λ (n : ℕ). c .before .loop .found ≡ someBelow (8 + n) (between s (orderOf (a .rows .now)) (a .l) (a .i) (a .w))) (q ∙ sym (h .count)) (c .before .loop .inv .1 k s h)
 
 pub hidden-spec : {M : Type 1} → statement M
 hidden-spec =

@@ -14,7 +14,7 @@ use Rattle.rules.specs.Commit.{barred, visible}
 use Rattle.machine.specs.Shown.{holderOf, nameOf}
 use Rattle.committing.specs.Committed.{holding}
 use Rattle.committing.proofs.Inputs.{sync-test, barred-input}
-use Rattle.committing.proofs.Refusing.{rest-27, rest-28, rest-29, rest-30, rest-31, rest-32}
+use Rattle.committing.proofs.Refusing.{read-stands, rest-27, rest-28, rest-29, rest-30, rest-31, rest-32}
 use borrow.Author.Needs.{needs}
 use Rattle.committing.proofs.rest_code.Statement.{statement}
 use Rattle.committing.proofs.rest_code.Tie as tie
@@ -25,7 +25,7 @@ kind-of-requires c κs = search needs
 returns : tie.Need-returns
 returns c =
     let a = c .before .before .args in
-    λ s h o l. rest-27 _ _ _ _ _ _ (ap (λ (n : ℕ). not (eqb (a .src) 0) && not (eqb n 1)) (sym (c .before .kind-of .ensures .0)) ∙ c .if1 .taken)
+    λ s h o y l. rest-27 _ _ _ _ _ _ (ap (λ (n : ℕ). not (eqb (a .src) 0) && not (eqb n 1)) (sym (c .before .kind-of .ensures .0)) ∙ c .if1 .taken)
 
 held-requires : tie.Need-held-requires
 held-requires c κs = search needs
@@ -34,7 +34,7 @@ returns-2 : tie.Need-returns-2
 returns-2 c =
     let a = c .before .before .before .before .args in
     let q = c .before .before .before .kind-of .ensures .0 in
-    λ s h o l. rest-28 _ _ _ _ _ _
+    λ s h o y l. rest-28 _ _ _ _ _ _
     (ap (λ (n : ℕ). not (eqb (a .src) 0) && not (eqb n 1)) (sym q) ∙ c .before .before .if1 .left)
     (ap (λ (n : ℕ). someBelow (a .k) (λ j. holding (a .p) n (a .e .loc) (s .actions j))) (sym q) ∙ sym (c .before .held .ensures (a .c) (a .issued) s h (omega (arith, c .before .before .before .before .pre .4))) ∙ c .if2 .taken)
 
@@ -45,7 +45,7 @@ returns-3 : tie.Need-returns-3
 returns-3 c =
     let a = c .before .before .before .before .before .before .args in
     let q = c .before .before .before .before .before .kind-of .ensures .0 in
-    λ s h o l. rest-29 _ _ _ _ _ _
+    λ s h o y l. rest-29 _ _ _ _ _ _
     (ap (λ (n : ℕ). not (eqb (a .src) 0) && not (eqb n 1)) (sym q) ∙ c .before .before .before .before .if1 .left)
     (ap (λ (n : ℕ). someBelow (a .k) (λ j. holding (a .p) n (a .e .loc) (s .actions j))) (sym q) ∙ sym (c .before .before .before .held .ensures (a .c) (a .issued) s h (omega (arith, c .before .before .before .before .before .before .pre .4))) ∙ c .before .before .if2 .left)
     (sym (c .before .unready .ensures s h) ∙ c .if3 .taken)
@@ -63,7 +63,7 @@ returns-4 : tie.Need-returns-4
 returns-4 c =
     let a = c .before .before .before .before .before .before .before .before .before .args in
     let q = c .before .before .before .before .before .before .before .before .kind-of .ensures .0 in
-    λ s h o l.
+    λ s h o y l.
     let x = c .before .before .input .ensures s h in
     let w = c .before .wide .ensures .0 in
     rest-30 _ _ _ _ _ _
@@ -82,7 +82,7 @@ returns-5 : tie.Need-returns-5
 returns-5 c =
     let a = c .before .before .before .before .before .before .before .before .before .before .before .before .args in
     let q = c .before .before .before .before .before .before .before .before .before .before .before .kind-of .ensures .0 in
-    λ s h o l.
+    λ s h o y l.
     let x = c .before .before .before .before .before .input .ensures s h in
     let w = c .before .before .before .before .wide .ensures .0 in
     let g = c .before .before .holder-at .ensures ∙ ap (λ (n : ℕ). getD (a .holders .now) n 0) x in
@@ -103,11 +103,11 @@ returns-6 : tie.Need-returns-6
 returns-6 c =
     let a = c .before .before .before .before .before .before .before .before .before .before .before .before .before .args in
     let q = c .before .before .before .before .before .before .before .before .before .before .before .before .kind-of .ensures .0 in
-    λ s h o l.
+    λ s h o y l.
     let x = c .before .before .before .before .before .before .input .ensures s h in
     let w = c .before .before .before .before .before .wide .ensures .0 in
     let g = c .before .before .before .holder-at .ensures ∙ ap (λ (n : ℕ). getD (a .holders .now) n 0) x in
-    c .sight-code .ensures s h o
+    c .sight-code .ensures s h o (read-stands (a .c) s (a .e) (a .k) _ (c .before .before .before .before .before .before .before .before .before .before .before .before .before .pre .5) y q)
     ∙ ap (λ (n : ℕ). firstOf (32 when (eqb n 1 && not (visible (a .c) s (a .e .loc) (8 + a .k) (a .src))) ∷ [])) q
     ∙ rest-32 _ _ _ _ _ _
     (ap (λ (n : ℕ). not (eqb (a .src) 0) && not (eqb n 1)) (sym q) ∙ c .before .before .before .before .before .before .before .before .before .before .before .if1 .left)

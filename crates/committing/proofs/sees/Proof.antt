@@ -1,4 +1,6 @@
+use mathlib.Core.Path.{_∙_}
 use Rattle.orders.specs.Rows.{orderOf}
+use Rattle.machine.proofs.Ordered.{visible-rows}
 use Rattle.committing.proofs.Refusing.{sees-is}
 use borrow.Author.Needs.{needs}
 use Rattle.committing.proofs.sees.Statement.{statement}
@@ -19,8 +21,9 @@ before-requires c κs = search needs
 returns : tie.Need-returns
 returns c =
     let a = c .before .before .before .before .before .args in
-    λ s h o. sees-is (a .c) s (orderOf (a .rows .now)) (a .l) (a .i) (a .w) (c .before .before .before .before .writes .result) (c .before .before .before .item-value .result .known) (c .before .before .hidden .result) (c .before .before2 .result) (c .before .before .before .item-value .result .value)
-    o (c .before .before .before .before .writes .ensures (a .c) s h) (c .before .before .before .item-value .ensures s h) (c .before .before .hidden .ensures (a .c) s h) (c .before .before2 .ensures)
+    λ s h o m q. sees-is (a .c) s (orderOf (a .rows .now)) (a .l) (a .i) (a .w) (c .before .before .before .before .writes .result) (c .before .before .before .item-value .result .known) (c .before .before .hidden .result) (c .before .before2 .result) (c .before .before .before .item-value .result .value)
+    (c .before .before .before .before .writes .ensures (a .c) s h) (c .before .before .before .item-value .ensures s h) (c .before .before .hidden .ensures (a .c) s h) (c .before .before2 .ensures)
+    ∙ visible-rows (a .c) s (a .rows .now) (a .l) (a .i) (a .w) o m q
 
 pub sees-spec : {M : Type 1} → statement M
 sees-spec =

@@ -5,28 +5,25 @@ use lib.Dec.{eqb}
 use native.Mathlib.Omega.{arith}
 use Rattle.cases.specs.declared.Case.{Case}
 use Rattle.rules.specs.State.{State, Action, standsAt}
-use Rattle.rules.specs.Issue.{earlier as earlierOf}
+use Rattle.oneorder.specs.OneOrder.{hasItem}
 use Rattle.orders.specs.Rows.{SetOf}
 use Rattle.machine.specs.Shown.{Acts}
 use Rattle.machine.proofs.Entries.{action-at}
-use Rattle.machine.proofs.Items.{item-is, first-item}
+use Rattle.machine.proofs.Items.{item-is}
+use Rattle.issuing.specs.Issued.{after}
+use Rattle.issuing.proofs.Ordering.{initial-items}
 use borrow.Author.Needs.{needs}
 use Rattle.issuing.proofs.earlier.Statement.{statement}
 use Rattle.issuing.proofs.earlier.Tie as tie
 
 abbrev Inv-loop : tie.InvT-loop
-Inv-loop issued p l acts items₀ k₀ items k = (k ≤ issued) × ((c : Case) (s : State) → Acts c issued acts s → SetOf (8 + k) (earlierOf c s p l) items)
+Inv-loop issued p writes acts items₀ k₀ items k = (k ≤ issued) × ((c : Case) (s : State) (new : Action) → Acts c issued acts s → SetOf 8 (λ l. standsAt l new) writes → SetOf (8 + k) (after p new s) items)
 
 abbrev μ-loop : tie.MeasureT-loop
-μ-loop issued p l acts items₀ k₀ items k = issued - k
-
-one-requires : tie.Need-one-requires Inv-loop μ-loop
-one-requires c κs = search needs
+μ-loop issued p writes acts items₀ k₀ items k = issued - k
 
 loop-holds : tie.Need-loop-holds Inv-loop μ-loop
-loop-holds c =
-    let a = c .before .args in
-    (search needs, λ k s h. subst (SetOf 8 (earlierOf k s (a .p) (a .l))) (sym (c .one .ensures)) (first-item (λ x. eqb (x .proc) (a .p) && standsAt (a .l) x) s (a .l) (c .before .pre .2)))
+loop-holds c = (search needs, λ k s new h w. initial-items (c .args .p) new s (c .args .writes) w)
 
 mul-e : tie.Need-mul-e Inv-loop μ-loop
 mul-e c = search needs
@@ -52,20 +49,20 @@ loop-less c = search needs
 loop-again : tie.Need-loop-again Inv-loop μ-loop
 loop-again c =
     let at = c .before .before .before .before in
-    let a = c .before .before .before .before .before .before .args in
+    let a = c .before .before .before .before .before .args in
     let n = at .loop .k in
     let q : 8 + n + 1 ≡ 8 + (n + 1) = omega arith in (
       search needs,
-      λ k s h. subst (λ (x : ℕ). SetOf x (earlierOf k s (a .p) (a .l)) (c .with .result)) q
-          (c .with .ensures (earlierOf k s (a .p) (a .l)) (at .loop .inv .1 k s h)
-          (c .before .own .ensures k ∙ ap (λ (x : Action). eqb (x .proc) (a .p) && standsAt (a .l) x) (sym (action-at k (a .issued) (a .t1) s h n (omega arith))) ∙ sym (item-is (λ x. eqb (x .proc) (a .p) && standsAt (a .l) x) s (eqb (8 + n) (a .l)) n))),
+      λ k s new h w. subst (λ (x : ℕ). SetOf x (after (a .p) new s) (c .with .result)) q
+          (c .with .ensures (after (a .p) new s) (at .loop .inv .1 k s new h w)
+          (c .before .own .ensures k ∙ ap (λ (x : Action). eqb (x .proc) (a .p) && hasItem x) (sym (action-at k (a .issued) (a .t1) s h n (omega arith))) ∙ sym (item-is (λ x. eqb (x .proc) (a .p) && hasItem x) s (standsAt (8 + n) new) n))),
     )
 
 returns : tie.Need-returns Inv-loop μ-loop
 returns c =
-    let a = c .before .before .before .args in
+    let a = c .before .before .args in
     let q : c .before .loop .k ≡ a .issued = omega arith in
-    λ k s h. subst (λ (n : ℕ). SetOf (8 + n) (earlierOf k s (a .p) (a .l)) (c .before .loop .items)) q (c .before .loop .inv .1 k s h)
+    λ k s new h w. subst (λ (n : ℕ). SetOf (8 + n) (after (a .p) new s) (c .before .loop .items)) q (c .before .loop .inv .1 k s new h w)
 
 pub earlier-spec : {M : Type 1} → statement M
 earlier-spec =
@@ -73,7 +70,6 @@ earlier-spec =
     (tie.spec
     Inv-loop
     μ-loop
-    one-requires
     loop-holds
     mul-e
     array-copy-out-e

@@ -11,7 +11,7 @@ use Rattle.rules.specs.Issue.{renamed as renamedOf}
 use Rattle.machine.specs.Shown.{shown, shownEntry, namesOf}
 use Rattle.machine.specs.Fit.{Fine}
 use Rattle.issuing.specs.Issued.{fresh}
-use Rattle.issuing.proofs.Entering.{issue-low, issue-room, issue-inside, issue-fine, issue-entry, issue-shows}
+use Rattle.issuing.proofs.Entering.{issue-low, issue-room, issue-inside, issue-fine, issue-new, issue-entry}
 use borrow.Author.Needs.{needs}
 use Rattle.issuing.proofs.issue.Statement.{statement}
 use Rattle.issuing.proofs.issue.Tie as tie
@@ -62,16 +62,17 @@ enter-requires c κs =
     let w = c .before .before .before .before .before .wide .ensures .0 in
     let h = subst (λ (n : ℕ). shownEntry (a .t1) (c .new-entry .result) ≡ fresh (shown (a .t1) (a .t2)) (a .p) (getD (a .t2 .places) (a .p) 0) (instrAt (a .t1) (a .p) n)) w (c .new-entry .ensures (shown (a .t1) (a .t2)) (record { count = refl; actions = refl }) refl) in
     let n = ap (λ (i : Instr). put (namesOf (a .t1) (a .t2 .names)) (a .p) (renamedOf (namesOf (a .t1) (a .t2 .names) (a .p)) (assigns i) (given (a .t2 .issued)))) (ap (instrAt (a .t1) (a .p)) w ∙ sym (ap (λ (x : Action). x .instr) h)) in
-    (v, issue-low (a .t1) (a .t2) (a .p) v (b .pre .1), issue-room (a .t1) (a .t2) (a .p) v (b .pre .1), issue-entry (a .t1) (a .t2) (a .p) v (b .pre .1) (c .new-entry .result) h, c .before .before .renamed .ensures .0, c .before .before .renamed .ensures .1 (a .t1) ∙ n)
+    record {
+      valid = v;
+      fits = b .pre .1;
+      new = issue-new (a .t1) (a .t2) (a .p) v (b .pre .1) (c .new-entry .result) h;
+      entry = issue-entry (a .t1) (a .t2) (a .p) v (b .pre .1) (c .new-entry .result) h;
+      names-long = c .before .before .renamed .ensures .0;
+      renames = c .before .before .renamed .ensures .1 (a .t1) ∙ n;
+    }
 
 returns : tie.Need-returns
-returns c =
-    let b = c .before .before .before .before .before .before .before .before .before in
-    let a = b .args in
-    let v = b .pre .0 in
-    let w = c .before .before .before .before .before .before .wide .ensures .0 in
-    let h = subst (λ (n : ℕ). shownEntry (a .t1) (c .before .new-entry .result) ≡ fresh (shown (a .t1) (a .t2)) (a .p) (getD (a .t2 .places) (a .p) 0) (instrAt (a .t1) (a .p) n)) w (c .before .new-entry .ensures (shown (a .t1) (a .t2)) (record { count = refl; actions = refl }) refl) in
-    issue-shows (a .t1) (a .t2) (a .p) v (b .pre .1) (c .before .new-entry .result) (c .enter .result) h (c .enter .ensures)
+returns c = c .enter .ensures
 
 pub issue-spec : {M : Type 1} → statement M
 issue-spec =

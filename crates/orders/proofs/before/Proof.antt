@@ -5,16 +5,10 @@ use Rattle.orders.proofs.before.Statement.{statement}
 use Rattle.orders.proofs.before.Tie as tie
 
 returns : tie.Need-returns
-returns c = let s = c .before .args in sym (order-out (s .rows .now) (s .l) (s .a) (s .b) (c .if1 .taken))
+returns c = let s = c .before .args in sym (order-out (s .rows .now) (s .a) (s .b) (c .if1 .taken))
 
 mul-row : tie.Need-mul-row
 mul-row c = search needs
-
-add-row : tie.Need-add-row
-add-row c = search needs
-
-mul-row-2 : tie.Need-mul-row-2
-mul-row-2 c = search needs
 
 element-copy-out-row : tie.Need-element-copy-out-row
 element-copy-out-row c = search needs
@@ -23,9 +17,9 @@ has-requires : tie.Need-has-requires
 has-requires c κs = search needs
 
 returns-2 : tie.Need-returns-2
-returns-2 c = let s = c .before .before .before in c .has .ensures ∙ sym (order-at (s .args .rows .now) (s .args .l) (s .args .a) (s .args .b) (s .pre) (c .before .before .if1 .left))
+returns-2 c = let s = c .before .before .before in c .has .ensures ∙ sym (order-at (s .args .rows .now) (s .args .a) (s .args .b) (c .before .before .if1 .left))
 
 pub before-spec : {M : Type 1} → statement M
 before-spec =
     tie.close
-    (tie.spec returns mul-row add-row mul-row-2 element-copy-out-row has-requires returns-2)
+    (tie.spec returns mul-row element-copy-out-row has-requires returns-2)

@@ -9,13 +9,13 @@ use Rattle.orders.proofs.reach.Statement.{statement}
 use Rattle.orders.proofs.reach.Tie as tie
 
 abbrev Inv-loop : tie.InvT-loop
-Inv-loop rows l items n mask₀ e₀ mask e = (e ≤ n) × ((P : ℕ → Bool) → SetOf n P items → Reaches (orderOf rows l) e P mask)
+Inv-loop rows items n mask₀ e₀ mask e = (e ≤ n) × ((P : ℕ → Bool) → SetOf n P items → Reaches (orderOf rows) e P mask)
 
 abbrev μ-loop : tie.MeasureT-loop
-μ-loop rows l items n mask₀ e₀ mask e = n - e
+μ-loop rows items n mask₀ e₀ mask e = n - e
 
 loop-holds : tie.Need-loop-holds Inv-loop μ-loop
-loop-holds c = (search needs, λ P h. reaches-none (orderOf (c .args .rows .now) (c .args .l)) P)
+loop-holds c = (search needs, λ P h. reaches-none (orderOf (c .args .rows .now)) P)
 
 has-requires : tie.Need-has-requires Inv-loop μ-loop
 has-requires c κs = search needs
@@ -33,13 +33,13 @@ loop-again : tie.Need-loop-again Inv-loop μ-loop
 loop-again c =
     let at = c .before .before .before in
     let s = at .before .args in
-    (search needs, λ P h. reaches-more (orderOf (s .rows .now) (s .l)) (at .loop .e) P (at .loop .mask) (c .up-to-if .result) (c .before .has .result) (at .loop .inv .1 P h) (c .before .has .ensures ∙ set-at (s .n) P (s .items) h (at .loop .e) (omega arith)) (c .up-to-if .ensures))
+    (search needs, λ P h. reaches-more (orderOf (s .rows .now)) (at .loop .e) P (at .loop .mask) (c .up-to-if .result) (c .before .has .result) (at .loop .inv .1 P h) (c .before .has .ensures ∙ set-at (s .n) P (s .items) h (at .loop .e) (omega arith)) (c .up-to-if .ensures))
 
 returns : tie.Need-returns Inv-loop μ-loop
 returns c =
     let q : c .before .loop .e ≡ c .before .before .args .n = omega arith in
     let s = c .before .before .args in
-    λ P h. subst (λ (n : ℕ). Reaches (orderOf (s .rows .now) (s .l)) n P (c .before .loop .mask)) q (c .before .loop .inv .1 P h)
+    λ P h. subst (λ (n : ℕ). Reaches (orderOf (s .rows .now)) n P (c .before .loop .mask)) q (c .before .loop .inv .1 P h)
 
 pub reach-spec : {M : Type 1} → statement M
 reach-spec =

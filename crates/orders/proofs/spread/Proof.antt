@@ -1,5 +1,5 @@
 use mathlib.Core.Path.{_≡_, sym, _∙_, subst}
-use Prim.Native.Nat.{ℕ, _≤_, _-_, _+_, _*_}
+use Prim.Native.Nat.{ℕ, _≤_, _-_, _+_}
 use lib.ListN.{length, set, length-set}
 use native.Mathlib.Omega.{arith}
 use Rattle.orders.specs.Rows.{JoinedTo}
@@ -9,22 +9,16 @@ use Rattle.orders.proofs.spread.Statement.{statement}
 use Rattle.orders.proofs.spread.Tie as tie
 
 abbrev Inv-loop : tie.InvT-loop
-Inv-loop rows₀ l i mask b₀ rows b = (b ≤ 56) × (length rows ≡ 448) × JoinedTo rows₀ rows l i mask b
+Inv-loop rows₀ i mask b₀ rows b = (b ≤ 56) × (length rows ≡ 56) × JoinedTo rows₀ rows i mask b
 
 abbrev μ-loop : tie.MeasureT-loop
-μ-loop rows₀ l i mask b₀ rows b = 56 - b
+μ-loop rows₀ i mask b₀ rows b = 56 - b
 
 loop-holds : tie.Need-loop-holds Inv-loop μ-loop
-loop-holds c = (search needs, c .pre .1, joined-none (c .args .rows .now) (c .args .l) (c .args .i) (c .args .mask))
+loop-holds c = (search needs, c .pre, joined-none (c .args .rows .now) (c .args .i) (c .args .mask))
 
 mul-row : tie.Need-mul-row Inv-loop μ-loop
 mul-row c = search needs
-
-add-row : tie.Need-add-row Inv-loop μ-loop
-add-row c = search needs
-
-mul-row-2 : tie.Need-mul-row-2 Inv-loop μ-loop
-mul-row-2 c = search needs
 
 element-copy-out-row : tie.Need-element-copy-out-row Inv-loop μ-loop
 element-copy-out-row c = search needs
@@ -34,12 +28,6 @@ joined-row-requires c κs = search needs
 
 mul-rows : tie.Need-mul-rows Inv-loop μ-loop
 mul-rows c = search needs
-
-add-rows : tie.Need-add-rows Inv-loop μ-loop
-add-rows c = search needs
-
-mul-rows-2 : tie.Need-mul-rows-2 Inv-loop μ-loop
-mul-rows-2 c = search needs
 
 element-write-rows : tie.Need-element-write-rows Inv-loop μ-loop
 element-write-rows c = search needs
@@ -57,15 +45,15 @@ loop-again c =
     let rows = at .loop .rows in (
       search needs,
       length-set rows _ _ ∙ at .loop .inv .1,
-      subst (λ (n : ℕ). JoinedTo (a .rows .now) (set rows (56 * a .l + at .loop .b) n) (a .l) (a .i) (a .mask) (at .loop .b + 1)) (sym (c .joined-row .ensures))
-          (joined-more (a .rows .now) rows (a .l) (a .i) (a .mask) (at .loop .b) (at .loop .inv .1) (at .before .pre .0) (omega arith) (at .loop .inv .2)),
+      subst (λ (n : ℕ). JoinedTo (a .rows .now) (set rows (at .loop .b) n) (a .i) (a .mask) (at .loop .b + 1)) (sym (c .joined-row .ensures))
+          (joined-more (a .rows .now) rows (a .i) (a .mask) (at .loop .b) (at .loop .inv .1) (omega arith) (at .loop .inv .2)),
     )
 
 returns : tie.Need-returns Inv-loop μ-loop
 returns c =
     let q : c .before .loop .b ≡ 56 = omega arith in
     let a = c .before .before .args in
-    (c .before .loop .inv .1, subst (λ (n : ℕ). JoinedTo (a .rows .now) (c .before .loop .rows) (a .l) (a .i) (a .mask) n) q (c .before .loop .inv .2))
+    (c .before .loop .inv .1, subst (λ (n : ℕ). JoinedTo (a .rows .now) (c .before .loop .rows) (a .i) (a .mask) n) q (c .before .loop .inv .2))
 
 pub spread-spec : {M : Type 1} → statement M
 spread-spec =
@@ -75,13 +63,9 @@ spread-spec =
     μ-loop
     loop-holds
     mul-row
-    add-row
-    mul-row-2
     element-copy-out-row
     joined-row-requires
     mul-rows
-    add-rows
-    mul-rows-2
     element-write-rows
     add-b
     loop-less

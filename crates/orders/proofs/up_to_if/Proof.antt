@@ -11,7 +11,7 @@ up-to-requires : tie.Need-up-to-requires
 up-to-requires c κs = search needs
 
 returns : tie.Need-returns
-returns c = λ a. c .up-to .ensures a ∙ ap (λ (b : Bool). b && upTo (orderOf (c .before .before .args .rows .now) (c .before .before .args .l)) a (c .before .before .args .e)) (sym (c .before .if1 .taken))
+returns c = λ a. c .up-to .ensures a ∙ ap (λ (b : Bool). b && upTo (orderOf (c .before .before .args .rows .now)) a (c .before .before .args .e)) (sym (c .before .if1 .taken))
 
 returns-2 : tie.Need-returns-2
 returns-2 c = λ a. has-zero a ∙ rw (c .if1 .left)

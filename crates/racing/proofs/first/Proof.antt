@@ -15,16 +15,18 @@ returns : tie.Need-returns
 returns c =
     let then = c .before .before .before in
     let opener = then .before in
-    let a = opener .before .before .before .before .args in
+    let start = opener .before .before .before .before in
+    let a = start .args in
     let s = shown (a .c) (a .t2) in
-    pair-found s (opener .opener .result) (c .partner .result) (opener .opener .ensures (a .c) s (record { count = refl; actions = refl }) refl) (then .if1 .taken) (c .partner .ensures (a .c) s (record { count = refl; actions = refl }) refl)
+    pair-found s (opener .opener .result) (c .partner .result) (opener .opener .ensures (a .c) s (record { count = refl; actions = refl }) refl (start .pre .entries)) (then .if1 .taken) (c .partner .ensures (a .c) s (record { count = refl; actions = refl }) refl (start .pre .entries))
 
 returns-2 : tie.Need-returns-2
 returns-2 c =
     let opener = c .before in
-    let a = opener .before .before .before .before .args in
+    let start = opener .before .before .before .before in
+    let a = start .args in
     let s = shown (a .c) (a .t2) in
-    pair-none s (opener .opener .result) (opener .opener .ensures (a .c) s (record { count = refl; actions = refl }) refl) (c .if1 .left)
+    pair-none s (opener .opener .result) (opener .opener .ensures (a .c) s (record { count = refl; actions = refl }) refl (start .pre .entries)) (c .if1 .left)
 
 pub first-spec : {M : Type 1} → statement M
 first-spec = tie.close (tie.spec opener-requires partner-requires returns returns-2)
