@@ -19,6 +19,25 @@ pub struct Written {
     pub position: u32,
 }
 
+/// The answer of reading a text; the block stands in the lent buffer.
+#[derive(Clone, Copy, Debug, PartialEq, Eq)]
+pub struct ReadText {
+    pub code: u32,
+    /// The line that codes 17 and 19 name, from 1; else 0.
+    pub line: u32,
+    /// Whether an old text was read whose usual bound is not 0.
+    pub usual: bool,
+}
+
+/// The answer of writing a block's text, which stands in the lent buffer.
+#[derive(Clone, Copy, Debug, PartialEq, Eq)]
+pub struct WrittenText {
+    pub code: u32,
+    /// The text's bytes; 0 with a refusal.
+    pub length: u32,
+    pub position: u32,
+}
+
 /// The answer of a listing; the records stand in the lent buffer.
 #[derive(Clone, Copy, Debug, PartialEq, Eq)]
 pub struct Listed {
@@ -124,6 +143,12 @@ impl Written {
     }
 }
 
+impl ReadText {
+    pub fn refused(reason: Reason, line: u32) -> ReadText {
+        ReadText { code: reason.code(), line, usual: false }
+    }
+}
+
 impl Listed {
     pub fn refused(refusal: Refusal) -> Listed {
         Listed { code: refusal.code(), count: 0, cut: false, position: refusal.position }
@@ -192,4 +217,10 @@ pub trait Planner {
 /// Lists outcomes on a store-buffer machine; the bound counts instructions.
 pub trait BoardLister {
     fn board(&self, board: Board, block: &[u8], bound: u32, records: &mut [u8]) -> Listed;
+}
+
+/// Turns a text into a block, and a block into its text.
+pub trait Typist {
+    fn read_text(&self, text: &[u8], block: &mut [u8]) -> ReadText;
+    fn write_text(&self, block: &[u8], text: &mut [u8]) -> WrittenText;
 }

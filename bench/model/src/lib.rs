@@ -16,7 +16,7 @@ mod schedule;
 mod wait;
 
 pub use calls::{Asked, Asker, Board, BoardLister, Codec, HandedOff, Listed, Lister, Planner, Raced, Racer, Read};
-pub use calls::{Replayed, Replayer, Verdict, Waiter, Written};
+pub use calls::{ReadText, Replayed, Replayer, Typist, Verdict, Waiter, Written, WrittenText};
 pub use case::{Case, CaseBuilder, Processor};
 pub use clause::{clause, Clause, Named, CLAUSES};
 pub use instr::{ops, Instr};

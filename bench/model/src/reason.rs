@@ -20,6 +20,8 @@ pub enum Reason {
     ScheduleRoom,
     Queued,
     Plan,
+    NoText,
+    TextRoom,
     BadStep,
     PlaceUndefined,
     AtEnd,
@@ -38,7 +40,7 @@ pub enum Reason {
 use Reason::*;
 
 /// Each refusal with its code and its document's words, in the order they are tried.
-const TABLE: [(Reason, u32, &str); 29] = [
+const TABLE: [(Reason, u32, &str); 31] = [
     (BlockLength, 1, "length is not 512"),
     (Check, 2, "check"),
     (Sizes, 3, "bytes 0 to 3"),
@@ -55,6 +57,8 @@ const TABLE: [(Reason, u32, &str); 29] = [
     (ScheduleRoom, 13, "schedule buffer not 384 bytes"),
     (Queued, 14, "a queue is not empty"),
     (Plan, 15, "a plan that is not one of a hand-off"),
+    (NoText, 17, "not one case's text"),
+    (TextRoom, 18, "the text buffer is shorter than the text"),
     (BadStep, 20, "kind over 1, processor not below P, or an issue with byte 2 or 3 not zero"),
     (PlaceUndefined, 21, "place counter undefined"),
     (AtEnd, 22, "at the end"),
@@ -116,7 +120,7 @@ mod tests {
             assert_eq!(Reason::from_code(*code), Some(*refusal));
         }
         let codes: Vec<u32> = Reason::all().map(Reason::code).collect();
-        assert_eq!(codes, (1..=7).chain([19]).chain(8..=15).chain(20..=32).collect::<Vec<u32>>());
+        assert_eq!(codes, (1..=7).chain([19]).chain(8..=15).chain([17, 18]).chain(20..=32).collect::<Vec<u32>>());
         assert_eq!(Reason::from_code(0), None);
     }
 }

@@ -101,7 +101,8 @@ impl Tally {
     pub fn deep(&self) -> bool {
         let tallies = [&self.lists, &self.asks, &self.replays];
         let missing = |code: &u32| tallies.iter().all(|tally| !tally.contains_key(code));
-        let codes = Reason::all().filter(|&reason| reason != Reason::Plan && reason != Reason::Queued).map(Reason::code);
+        let elsewhere = [Reason::Plan, Reason::Queued, Reason::NoText, Reason::TextRoom];
+        let codes = Reason::all().filter(|reason| !elsewhere.contains(reason)).map(Reason::code);
         3 * self.several >= self.lists.values().sum()
             && 3 * self.yes >= self.asks.values().sum()
             && self.no_cut > 0

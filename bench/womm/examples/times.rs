@@ -1,16 +1,16 @@
 //! `times [MOST]` times the library beside the plain depth-first search, where that has at most so many
 //! schedules to walk (by default 30,000,000), and beside the breadth-first enumerator; then questions beside lists; then
-//! store-buffer machines; then replays.
+//! store-buffer machines; then replays; then texts.
 
 use std::env;
 use std::time::Instant;
 
-use model::{clause, Asker, Board, BoardLister, Clause, Lister, Replayer, ENDING, RECORD, SCHEDULE};
+use model::{clause, ops, Asker, Board, BoardLister, Case, Clause, Lister, Replayer, Typist, ENDING, RECORD, SCHEDULE};
 use plain::Plain;
 use random::{Inputs, ReplayInput};
 use shapes::Shape;
 use states::States;
-use womm::Library;
+use womm::{Library, TEXT};
 
 /// The records that the program `outcomes` has room for.
 const ROOM: usize = 682;
@@ -32,6 +32,25 @@ fn main() {
     boards();
     println!();
     replays();
+    println!();
+    texts();
+}
+
+/// A text of 60 lines read, and its block written as a text again.
+fn texts() {
+    let program =
+        [ops::read(2, 0), ops::write(0, 1), ops::set(3, 65_535), ops::add(4, 2, 3), ops::branch(4, 12), ops::acquire(1)];
+    let mut case = Case::builder(4, 3).memory(0, 1).memory(1, 20_000).memory(2, 65_535);
+    for p in 0..4 {
+        case = case.preset(p, 0, 0).preset(p, 1, 1).program(p, &[program, program].concat());
+    }
+    let mut block = case.build().expect("a sound case").block();
+    let text = womm::write_text(&block).expect("its text");
+    let lines = text.iter().filter(|&&byte| byte == b'\n').count();
+    let mut room = [0; TEXT];
+    let read = best(|| (0..1_000).for_each(|_| assert_eq!(Library.read_text(&text, &mut block).code, 0))) * 1e3;
+    let written = best(|| (0..1_000).for_each(|_| assert_eq!(Library.write_text(&block, &mut room).code, 0))) * 1e3;
+    println!("A text of {lines} lines, microseconds, the best of five over 1,000: read {read:.2}, written {written:.2}");
 }
 
 /// Each shape on each store-buffer machine, and on WOMM.

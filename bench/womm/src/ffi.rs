@@ -87,6 +87,24 @@ extern "C" {
         verdict: *mut usize,
         length: *mut usize,
     ) -> u32;
+
+    fn womm_read_text(
+        text: *const u8,
+        text_length: usize,
+        block: *mut u8,
+        block_length: usize,
+        line: *mut usize,
+        usual: *mut usize,
+    ) -> u32;
+
+    fn womm_write_text(
+        block: *const u8,
+        block_length: usize,
+        text: *mut u8,
+        text_length: usize,
+        length: *mut usize,
+        position: *mut usize,
+    ) -> u32;
 }
 
 /// What a question gives: the code, two marks and two numbers.
@@ -183,4 +201,16 @@ pub fn handoff(sending: &[u8], receiving: &[u8], schedule: &mut [u8], verdict: &
     let (bytes, room) = (schedule.as_mut_ptr(), schedule.len());
     // SAFETY: as above; `schedule` and the numbers are lent to this call alone.
     unsafe { womm_handoff(sending.as_ptr(), sending.len(), other, others, bytes, room, verdict, length) }
+}
+
+/// Reads a text into a block; gives the code.
+pub fn read_text(text: &[u8], block: &mut [u8], line: &mut usize, usual: &mut usize) -> u32 {
+    // SAFETY: as above; `block` and the numbers are lent to this call alone.
+    unsafe { womm_read_text(text.as_ptr(), text.len(), block.as_mut_ptr(), block.len(), line, usual) }
+}
+
+/// Writes the text of a block; gives the code.
+pub fn write_text(block: &[u8], text: &mut [u8], length: &mut usize, position: &mut usize) -> u32 {
+    // SAFETY: as above; `text` and the numbers are lent to this call alone.
+    unsafe { womm_write_text(block.as_ptr(), block.len(), text.as_mut_ptr(), text.len(), length, position) }
 }

@@ -12,11 +12,15 @@ pub use guarded::Guarded;
 pub use library::Library;
 pub use model::{clause, ops, Act, Asked, Asker, Board, BoardLister, Case, CaseBuilder, Clause, Codec, Ending, HandedOff};
 pub use model::{Instr, Listed, Lister, Outcome, Planner, Raced, Racer, Read, Reason, Refusal, Replayed, Replayer, Step};
-pub use model::{Verdict, Wait, Waiter, Written};
+pub use model::{ReadText, Typist, Verdict, Wait, Waiter, Written, WrittenText};
 pub use race::{race, Access, Race, Racing};
 pub use stop::{Place, Stop};
 
+use model::block::LENGTH;
 use model::{schedule, steps, ENDING, RECORD, SCHEDULE, WAITS};
+
+/// The longest text has so many bytes.
+pub const TEXT: usize = 1_369;
 
 /// Whether a block holds a case; if so, whether it held a usual bound too, which is dropped.
 pub fn read(block: &[u8]) -> Result<bool, Refusal> {
@@ -29,6 +33,39 @@ pub fn read(block: &[u8]) -> Result<bool, Refusal> {
 pub fn write(block: &mut [u8]) -> Result<(), Refusal> {
     let written = Library.write(block);
     accepted(written.code, written.position)
+}
+
+/// The block of a text, and whether an old text's usual bound was dropped.
+#[derive(Clone, Debug, PartialEq, Eq)]
+pub struct Typed {
+    pub block: [u8; LENGTH],
+    pub usual: bool,
+}
+
+/// Why a text was refused, and at which line.
+#[derive(Clone, Copy, Debug, PartialEq, Eq)]
+pub struct TextRefusal {
+    pub reason: Reason,
+    pub line: u32,
+}
+
+/// Reads a text.
+pub fn read_text(text: &[u8]) -> Result<Typed, TextRefusal> {
+    let mut block = [0; LENGTH];
+    let ReadText { code, line, usual } = Library.read_text(text, &mut block);
+    match reason(code) {
+        Some(reason) => Err(TextRefusal { reason, line }),
+        None => Ok(Typed { block, usual }),
+    }
+}
+
+/// The text of a block.
+pub fn write_text(block: &[u8]) -> Result<Vec<u8>, Refusal> {
+    let mut text = vec![0; TEXT];
+    let written = Library.write_text(block, &mut text);
+    accepted(written.code, written.position)?;
+    text.truncate(written.length as usize);
+    Ok(text)
 }
 
 /// All outcomes within a bound, in byte order.

@@ -1,7 +1,7 @@
 //! The library over plain bytes, and the numbers that it gives.
 
 use model::{Asked, Asker, Board, BoardLister, Clause, Codec, HandedOff, Listed, Lister, Planner, Raced, Racer, Read};
-use model::{Replayed, Replayer, Verdict, Waiter, Written};
+use model::{ReadText, Replayed, Replayer, Typist, Verdict, Waiter, Written, WrittenText};
 
 use crate::ffi::{self, AskNumbers, ListNumbers, ReplayNumbers};
 
@@ -84,6 +84,20 @@ impl Planner for Library {
         let [mut verdict, mut length] = [0; 2];
         let code = ffi::handoff(sending, receiving, schedule, &mut verdict, &mut length);
         HandedOff { code, verdict: verdict_given(verdict), length: short(length) }
+    }
+}
+
+impl Typist for Library {
+    fn read_text(&self, text: &[u8], block: &mut [u8]) -> ReadText {
+        let [mut line, mut usual] = [0; 2];
+        let code = ffi::read_text(text, block, &mut line, &mut usual);
+        ReadText { code, line: short(line), usual: mark(usual) }
+    }
+
+    fn write_text(&self, block: &[u8], text: &mut [u8]) -> WrittenText {
+        let [mut length, mut position] = [0; 2];
+        let code = ffi::write_text(block, text, &mut length, &mut position);
+        WrittenText { code, length: short(length), position: short(position) }
     }
 }
 

@@ -2,3 +2,4 @@ mod Marks
 mod One
 pub mod Asking
 pub mod Handing
+pub mod Typing

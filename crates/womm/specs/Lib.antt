@@ -1,3 +1,4 @@
 pub mod Exports
 pub mod Asking
 pub mod Handing
+pub mod Typing

@@ -7,6 +7,7 @@ ghost use Rattle.racing.specs.Answer.{RacedAs};
 ghost use Rattle.womm.specs.Exports.{ReadAs, WrittenAs, ReplayedAs, WhyAs, ListedAs, BoardListedAs};
 ghost use Rattle.womm.specs.Asking.{AskedAs};
 ghost use Rattle.womm.specs.Handing.{HandedAs};
+ghost use Rattle.womm.specs.Typing.{TextReadAs, TextWrittenAs};
 
 // Reads a block: 0 where it holds a case, else the first of codes 1 to 7 and 19; the position that the code carries; and 1 where an accepted block has
 // a usual bound, which is dropped, else 0.
@@ -193,4 +194,38 @@ pub extern "C" fn womm_board(
     *cut = found.cut as usize;
     *position = found.position;
     found.code as u32
+}
+
+// Reads a text into a block: 17 and 19 on the text with the line that they name, then 1 on a buffer that is not of 512 bytes; and 1 where an old text
+// has a usual bound that is not 0, which is dropped, else 0. Refused, the buffer is all zeros.
+#[no_mangle]
+pub extern "C" fn womm_read_text(
+    text: &[u8],
+    block: &mut [u8],
+    line: &mut usize,
+    usual: &mut usize,
+) -> u32
+    ensures { λ r. ⌜ TextReadAs (now (text .entry)) (length (now (block .entry))) r (now (line .exit)) (now (usual .exit)) (now (block .exit)) ⌝ }
+{
+    let typed = reading::text_to_block(text, block);
+    *line = typed.line;
+    *usual = typed.usual as usize;
+    typed.code as u32
+}
+
+// Writes the text of a block: the block's codes with their position, then 18 on a buffer that is shorter than the text; and the text's length. Refused, the
+// buffer is all zeros.
+#[no_mangle]
+pub extern "C" fn womm_write_text(
+    block: &[u8],
+    text: &mut [u8],
+    size: &mut usize,
+    position: &mut usize,
+) -> u32
+    ensures { λ r. ⌜ TextWrittenAs (now (block .entry)) (length (now (text .entry))) r (now (size .exit)) (now (position .exit)) (now (text .exit)) ⌝ }
+{
+    let written = writing::block_to_text(block, text);
+    *size = written.length;
+    *position = written.position;
+    written.code as u32
 }

@@ -1,0 +1,14 @@
+pub mod Small
+pub mod Made
+pub mod Runs
+pub mod Reach
+pub mod Finished
+pub mod Instructions
+pub mod Bridge
+pub mod Soundness
+pub mod Words
+pub mod Parts
+pub mod Judged
+pub mod Right
+pub mod Unset
+pub mod Answers

@@ -1,0 +1,4 @@
+pub mod Draft
+pub mod Parse
+pub mod Heard
+pub mod Places

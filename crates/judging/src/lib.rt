@@ -1,0 +1,1 @@
+// The first bad line of a text, found line by line: laws, no code.

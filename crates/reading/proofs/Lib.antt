@@ -1,0 +1,5 @@
+pub mod Feeds
+pub mod Walking
+pub mod Taking
+pub mod Sums
+pub mod Answering
