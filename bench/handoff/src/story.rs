@@ -21,11 +21,11 @@ pub fn tell() -> Result<(), String> {
         println!("    {line}");
     }
     println!("\nWithout a lock it can end in these ways and no others (the proved list; no run is left out):");
-    list(&shapes::message().build().map_err(refused)?, 8, &[[0, 0], [0, 1], LOST, [1, 1]])?;
+    list(&shapes::message().build().map_err(refused)?.into(), 8, &[[0, 0], [0, 1], LOST, [1, 1]])?;
     println!();
     lost_baseline()?;
     println!("\nWith a lock, taken before and freed after by both cores (the proved list; no run is left out):");
-    list(&shapes::locked_message().build().map_err(refused)?, 16, &[[0, 0], [1, 1]])?;
+    list(&shapes::locked_message().build().map_err(refused)?.into(), 16, &[[0, 0], [1, 1]])?;
     if womm::handoff(&locked(SENDING), &locked(RECEIVING)).map_err(refused)? != Handoff::Safe {
         return Err("the hand-off inside the lock is not safe".to_string());
     }
@@ -33,7 +33,7 @@ pub fn tell() -> Result<(), String> {
     Ok(())
 }
 
-fn refused(refusal: womm::Refusal) -> String {
+fn refused(refusal: impl std::fmt::Display) -> String {
     format!("refused: {refusal}")
 }
 
@@ -43,7 +43,7 @@ fn locked(plan: [Act; 2]) -> [Act; 4] {
 
 /// Prints a case's results, which must be the expected ones with nothing cut.
 fn list(case: &Case, bound: u32, expected: &[[u16; 2]]) -> Result<(), String> {
-    let Listing { outcomes, cut } = womm::outcomes(case, bound, 16).map_err(refused)?;
+    let Listing { outcomes, cut } = case.outcomes(bound).map_err(refused)?;
     for outcome in &outcomes {
         println!("    {}", result(seen(outcome)));
     }
@@ -78,7 +78,11 @@ fn lost_baseline() -> Result<(), String> {
         println!("    {number}. {line}");
     }
     let plans = Plans { sending: SENDING.to_vec(), receiving: RECEIVING.to_vec() };
-    let race = womm::race(&plans.case(), &schedule).map_err(refused)?.race.ok_or("nothing races where the baseline is lost")?;
+    let race = womm::Case::from(plans.case())
+        .race(&schedule)
+        .map_err(refused)?
+        .race
+        .ok_or("nothing races where the baseline is lost")?;
     println!("How it is lost: {}", words::race([&SENDING, &RECEIVING], race, &NAMES));
     Ok(())
 }

@@ -2,24 +2,9 @@
 
 use crate::{faults, Case, Instr, Processor, Reason, Refusal};
 
-pub const LENGTH: usize = 512;
+pub use crate::layout::LENGTH;
 
-const BOUND: usize = 2;
-pub(crate) const COUNTS: usize = 4;
-pub(crate) const MASKS: usize = 8;
-pub(crate) const PRESETS: usize = 12;
-pub(crate) const MEMORY: usize = 76;
-pub(crate) const PROGRAMS: usize = 92;
-pub(crate) const TAIL: usize = 380;
-pub(crate) const CHECK: usize = 510;
-
-pub(crate) fn preset_at(p: usize, k: usize) -> usize {
-    PRESETS + 16 * p + 2 * k
-}
-
-pub(crate) fn slot_at(p: usize, i: usize) -> usize {
-    PROGRAMS + 72 * p + 6 * i
-}
+use crate::layout::{count, is_set, preset_at, slot_at, word, BOUND, CHECK, COUNTS, MASKS, MEMORY};
 
 /// The sum over bytes 0 to 509 of (position + 1) times byte, modulo 65,521.
 pub fn check(block: &[u8]) -> u16 {
@@ -33,7 +18,14 @@ pub fn seal(block: &mut [u8; LENGTH]) {
     block[CHECK..].copy_from_slice(&check);
 }
 
-pub(crate) fn write(case: &Case) -> [u8; LENGTH] {
+impl Case {
+    /// The 512 bytes of document 01.
+    pub fn block(&self) -> [u8; LENGTH] {
+        write(self)
+    }
+}
+
+fn write(case: &Case) -> [u8; LENGTH] {
     let mut block = [0; LENGTH];
     block[..2].copy_from_slice(&[case.processors.len() as u8, case.locations]);
     for (p, processor) in case.processors.iter().enumerate() {
@@ -105,18 +97,6 @@ fn closable(buffer: &mut [u8]) -> Result<&mut [u8; LENGTH], Refusal> {
     let block: &mut [u8; LENGTH] = buffer.try_into().map_err(|_| Reason::BlockLength)?;
     faults::judge(block)?;
     Ok(block)
-}
-
-fn word(block: &[u8; LENGTH], at: usize) -> u16 {
-    u16::from_le_bytes([block[at], block[at + 1]])
-}
-
-pub(crate) fn count(block: &[u8; LENGTH], p: usize) -> usize {
-    block[COUNTS + p].into()
-}
-
-pub(crate) fn is_set(block: &[u8; LENGTH], p: usize, k: usize) -> bool {
-    block[MASKS + p] >> k & 1 == 1
 }
 
 #[cfg(test)]

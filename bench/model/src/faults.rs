@@ -1,6 +1,6 @@
 //! The bytes of a block that are bad for each of codes 3 to 7 and 19.
 
-use crate::block::{count, is_set, preset_at, slot_at, CHECK, COUNTS, LENGTH, MASKS, MEMORY, TAIL};
+use crate::layout::{count, is_set, preset_at, slot_at, CHECK, COUNTS, LENGTH, MASKS, MEMORY, TAIL};
 use crate::{Instr, Reason, Refusal, INSTRUCTIONS, LOCATIONS, PROCESSORS, REGISTERS, STEPS};
 
 type Block = [u8; LENGTH];

@@ -1,6 +1,6 @@
 //! The fields of a block by name.
 
-use crate::block::{CHECK, COUNTS, MASKS, MEMORY, PRESETS, PROGRAMS, TAIL};
+use crate::layout::{CHECK, COUNTS, MASKS, MEMORY, PRESETS, PROGRAMS, TAIL};
 
 /// The field that a byte of a block belongs to.
 pub fn named(position: usize) -> String {

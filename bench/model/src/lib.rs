@@ -2,12 +2,14 @@
 #![forbid(unsafe_code)]
 
 pub mod block;
+mod builder;
 mod calls;
 mod case;
 mod clause;
 mod faults;
 mod field;
 mod instr;
+mod layout;
 mod outcome;
 mod plan;
 mod reason;
@@ -15,12 +17,12 @@ mod refusal;
 mod schedule;
 mod wait;
 
+pub use builder::CaseBuilder;
 pub use calls::{Asked, Asker, Board, BoardLister, Codec, HandedOff, Listed, Lister, Planner, Raced, Racer, Read};
 pub use calls::{ReadText, Replayed, Replayer, Typist, Verdict, Waiter, Written, WrittenText};
-pub use case::{Case, CaseBuilder, Processor};
+pub use case::{Case, Processor};
 pub use clause::{clause, Clause, Named, CLAUSES};
 pub use instr::{ops, Instr};
-
 pub use outcome::{Ending, Outcome, ENDING, RECORD};
 pub use plan::{Act, Plans, ACTS, READS, READY};
 pub use reason::Reason;

@@ -1,7 +1,6 @@
 use std::fmt;
 
-/// The refusals of documents 01 and 02, in the order they are tried; a hand-off tries `Plan` before `ScheduleRoom`, a
-/// race `Queued` after those of a step.
+/// The refusals of documents 01 and 02, in the order they are tried; a hand-off tries `Plan` before `ScheduleRoom`.
 #[derive(Clone, Copy, Debug, PartialEq, Eq, PartialOrd, Ord, Hash)]
 pub enum Reason {
     BlockLength,

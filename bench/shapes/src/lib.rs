@@ -7,6 +7,7 @@
 mod damaged;
 mod families;
 mod lists;
+mod results;
 mod runs;
 mod stored;
 mod wishes;
@@ -14,13 +15,17 @@ mod wishes;
 pub use damaged::{damaged, Damaged};
 pub use families::{families, Family};
 pub use lists::{lists, locked_message, message};
+pub use results::results;
 pub use runs::runs;
 pub use stored::{outcomes_prints, replay_prints, stored};
 pub use wishes::wishes;
 
 use std::collections::BTreeSet;
+use std::path::{Path, PathBuf};
+use std::{fs, io};
 
-use model::{Case, CaseBuilder, Instr, Outcome, Replayed};
+use model::{block, Case, CaseBuilder, Instr, Outcome, Replayed, Typist};
+use texts::Texts;
 
 /// A register of a processor.
 pub type Register = (usize, usize);
@@ -91,4 +96,20 @@ pub fn usual(locations: u8, programs: &[&[Instr]]) -> CaseBuilder {
         builder = builder.preset(p, 0, 0).preset(p, 1, 1).program(p, program);
     }
     builder
+}
+
+/// The texts of a folder, in the order of their names.
+pub fn folder(path: &Path) -> io::Result<Vec<PathBuf>> {
+    let paths = fs::read_dir(path)?.map(|entry| entry.map(|entry| entry.path()));
+    let mut paths: Vec<PathBuf> = paths.collect::<io::Result<_>>()?;
+    paths.retain(|path| path.extension().is_some_and(|extension| extension == "case"));
+    paths.sort();
+    Ok(paths)
+}
+
+/// The case of a text without a usual bound; none if it is no case's.
+pub fn typed(text: &[u8]) -> Option<Case> {
+    let mut bytes = [0; block::LENGTH];
+    let read = Texts.read_text(text, &mut bytes);
+    block::read(&bytes).ok().filter(|_| read.code == 0 && !read.usual)
 }

@@ -30,8 +30,8 @@ fn lines(blocks: &[Result<Case, Refusal>], over: usize) -> String {
     for instr in accepted.iter().flat_map(|case| case.processors()).flat_map(|processor| &processor.program) {
         ops[usize::from(instr.bytes()[0])] += 1;
     }
-    for op in 1..=10 {
-        writeln!(text, "op {op} {}", ops[op]).expect("a string");
+    for (op, count) in ops.iter().enumerate().skip(1) {
+        writeln!(text, "op {op} {count}").expect("a string");
     }
     text
 }

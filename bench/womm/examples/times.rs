@@ -44,11 +44,11 @@ fn texts() {
     for p in 0..4 {
         case = case.preset(p, 0, 0).preset(p, 1, 1).program(p, &[program, program].concat());
     }
-    let mut block = case.build().expect("a sound case").block();
-    let text = womm::write_text(&block).expect("its text");
-    let lines = text.iter().filter(|&&byte| byte == b'\n').count();
+    let case = womm::Case::from(case.build().expect("a sound case"));
+    let (mut block, text) = (*case.block(), case.text());
+    let lines = text.lines().count();
     let mut room = [0; TEXT];
-    let read = best(|| (0..1_000).for_each(|_| assert_eq!(Library.read_text(&text, &mut block).code, 0))) * 1e3;
+    let read = best(|| (0..1_000).for_each(|_| assert_eq!(Library.read_text(text.as_bytes(), &mut block).code, 0))) * 1e3;
     let written = best(|| (0..1_000).for_each(|_| assert_eq!(Library.write_text(&block, &mut room).code, 0))) * 1e3;
     println!("A text of {lines} lines, microseconds, the best of five over 1,000: read {read:.2}, written {written:.2}");
 }

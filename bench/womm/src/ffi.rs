@@ -8,6 +8,24 @@ extern "C" {
 
     fn womm_write(block: *mut u8, block_length: usize, position: *mut usize) -> u32;
 
+    fn womm_read_text(
+        text: *const u8,
+        text_length: usize,
+        block: *mut u8,
+        block_length: usize,
+        line: *mut usize,
+        usual: *mut usize,
+    ) -> u32;
+
+    fn womm_write_text(
+        block: *const u8,
+        block_length: usize,
+        text: *mut u8,
+        text_length: usize,
+        length: *mut usize,
+        position: *mut usize,
+    ) -> u32;
+
     fn womm_replay(
         block: *const u8,
         block_length: usize,
@@ -87,24 +105,6 @@ extern "C" {
         verdict: *mut usize,
         length: *mut usize,
     ) -> u32;
-
-    fn womm_read_text(
-        text: *const u8,
-        text_length: usize,
-        block: *mut u8,
-        block_length: usize,
-        line: *mut usize,
-        usual: *mut usize,
-    ) -> u32;
-
-    fn womm_write_text(
-        block: *const u8,
-        block_length: usize,
-        text: *mut u8,
-        text_length: usize,
-        length: *mut usize,
-        position: *mut usize,
-    ) -> u32;
 }
 
 /// What a question gives: the code, two marks and two numbers.
@@ -142,6 +142,18 @@ pub fn read(block: &[u8], position: &mut usize, usual: &mut usize) -> u32 {
 pub fn write(block: &mut [u8], position: &mut usize) -> u32 {
     // SAFETY: as above; `block` and `position` are lent to this call alone.
     unsafe { womm_write(block.as_mut_ptr(), block.len(), position) }
+}
+
+/// Reads a text into a block; gives the code.
+pub fn read_text(text: &[u8], block: &mut [u8], line: &mut usize, usual: &mut usize) -> u32 {
+    // SAFETY: as above; `block` and the numbers are lent to this call alone.
+    unsafe { womm_read_text(text.as_ptr(), text.len(), block.as_mut_ptr(), block.len(), line, usual) }
+}
+
+/// Writes the text of a block; gives the code.
+pub fn write_text(block: &[u8], text: &mut [u8], length: &mut usize, position: &mut usize) -> u32 {
+    // SAFETY: as above; `text` and the numbers are lent to this call alone.
+    unsafe { womm_write_text(block.as_ptr(), block.len(), text.as_mut_ptr(), text.len(), length, position) }
 }
 
 /// Replays a schedule; gives the code.
@@ -201,16 +213,4 @@ pub fn handoff(sending: &[u8], receiving: &[u8], schedule: &mut [u8], verdict: &
     let (bytes, room) = (schedule.as_mut_ptr(), schedule.len());
     // SAFETY: as above; `schedule` and the numbers are lent to this call alone.
     unsafe { womm_handoff(sending.as_ptr(), sending.len(), other, others, bytes, room, verdict, length) }
-}
-
-/// Reads a text into a block; gives the code.
-pub fn read_text(text: &[u8], block: &mut [u8], line: &mut usize, usual: &mut usize) -> u32 {
-    // SAFETY: as above; `block` and the numbers are lent to this call alone.
-    unsafe { womm_read_text(text.as_ptr(), text.len(), block.as_mut_ptr(), block.len(), line, usual) }
-}
-
-/// Writes the text of a block; gives the code.
-pub fn write_text(block: &[u8], text: &mut [u8], length: &mut usize, position: &mut usize) -> u32 {
-    // SAFETY: as above; `text` and the numbers are lent to this call alone.
-    unsafe { womm_write_text(block.as_ptr(), block.len(), text.as_mut_ptr(), text.len(), length, position) }
 }

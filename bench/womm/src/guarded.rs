@@ -77,6 +77,26 @@ impl Codec for Guarded {
     }
 }
 
+impl Typist for Guarded {
+    fn read_text(&self, text: &[u8], block: &mut [u8]) -> ReadText {
+        let (held, mut lent) = (Fenced::new(text), Fenced::new(block));
+        let [mut line, mut usual] = std::array::from_fn(|_| FencedNumber::new());
+        let code = ffi::read_text(held.inner(), lent.inner_mut(), line.lent(), usual.lent());
+        assert_eq!(black_box(&held).opened("text"), text, "the text was written");
+        block.copy_from_slice(black_box(&lent).opened("block"));
+        ReadText { code, line: short(line.opened("line")), usual: mark(usual.opened("mark of a usual bound")) }
+    }
+
+    fn write_text(&self, block: &[u8], text: &mut [u8]) -> WrittenText {
+        let (held, mut lent) = (Fenced::new(block), Fenced::new(text));
+        let [mut length, mut position] = std::array::from_fn(|_| FencedNumber::new());
+        let code = ffi::write_text(held.inner(), lent.inner_mut(), length.lent(), position.lent());
+        assert_eq!(black_box(&held).opened("block"), block, "the block was written");
+        text.copy_from_slice(black_box(&lent).opened("text"));
+        WrittenText { code, length: short(length.opened("length")), position: short(position.opened("position")) }
+    }
+}
+
 impl Lister for Guarded {
     fn outcomes(&self, block: &[u8], bound: u32, records: &mut [u8]) -> Listed {
         listed(|block, records, given| ffi::outcomes(block, bound, records, given), block, records)
@@ -152,26 +172,6 @@ impl Asker for Guarded {
         assert_eq!(black_box(&wishes)[..], [&edge, clauses, &edge].concat(), "a clause was written");
         schedule.copy_from_slice(black_box(&lent).opened("schedule"));
         asked(given)
-    }
-}
-
-impl Typist for Guarded {
-    fn read_text(&self, text: &[u8], block: &mut [u8]) -> ReadText {
-        let (held, mut lent) = (Fenced::new(text), Fenced::new(block));
-        let [mut line, mut usual] = std::array::from_fn(|_| FencedNumber::new());
-        let code = ffi::read_text(held.inner(), lent.inner_mut(), line.lent(), usual.lent());
-        assert_eq!(black_box(&held).opened("text"), text, "the text was written");
-        block.copy_from_slice(black_box(&lent).opened("block"));
-        ReadText { code, line: short(line.opened("line")), usual: mark(usual.opened("mark of a usual bound")) }
-    }
-
-    fn write_text(&self, block: &[u8], text: &mut [u8]) -> WrittenText {
-        let (held, mut lent) = (Fenced::new(block), Fenced::new(text));
-        let [mut length, mut position] = std::array::from_fn(|_| FencedNumber::new());
-        let code = ffi::write_text(held.inner(), lent.inner_mut(), length.lent(), position.lent());
-        assert_eq!(black_box(&held).opened("block"), block, "the block was written");
-        text.copy_from_slice(black_box(&lent).opened("text"));
-        WrittenText { code, length: short(length.opened("length")), position: short(position.opened("position")) }
     }
 }
 

@@ -22,6 +22,20 @@ impl Codec for Library {
     }
 }
 
+impl Typist for Library {
+    fn read_text(&self, text: &[u8], block: &mut [u8]) -> ReadText {
+        let [mut line, mut usual] = [0; 2];
+        let code = ffi::read_text(text, block, &mut line, &mut usual);
+        ReadText { code, line: short(line), usual: mark(usual) }
+    }
+
+    fn write_text(&self, block: &[u8], text: &mut [u8]) -> WrittenText {
+        let [mut length, mut position] = [0; 2];
+        let code = ffi::write_text(block, text, &mut length, &mut position);
+        WrittenText { code, length: short(length), position: short(position) }
+    }
+}
+
 impl Lister for Library {
     fn outcomes(&self, block: &[u8], bound: u32, records: &mut [u8]) -> Listed {
         listed(|given| ffi::outcomes(block, bound, records, given))
@@ -84,20 +98,6 @@ impl Planner for Library {
         let [mut verdict, mut length] = [0; 2];
         let code = ffi::handoff(sending, receiving, schedule, &mut verdict, &mut length);
         HandedOff { code, verdict: verdict_given(verdict), length: short(length) }
-    }
-}
-
-impl Typist for Library {
-    fn read_text(&self, text: &[u8], block: &mut [u8]) -> ReadText {
-        let [mut line, mut usual] = [0; 2];
-        let code = ffi::read_text(text, block, &mut line, &mut usual);
-        ReadText { code, line: short(line), usual: mark(usual) }
-    }
-
-    fn write_text(&self, block: &[u8], text: &mut [u8]) -> WrittenText {
-        let [mut length, mut position] = [0; 2];
-        let code = ffi::write_text(block, text, &mut length, &mut position);
-        WrittenText { code, length: short(length), position: short(position) }
     }
 }
 

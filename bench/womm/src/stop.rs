@@ -1,20 +1,26 @@
 use std::fmt;
 
-use model::{Case, Instr, Reason, Step};
+use model::{Instr, Reason, Step};
+
+use crate::Case;
 
 /// The refused step that stopped a replay: why, and at which instruction.
 #[derive(Clone, Copy, Debug, PartialEq, Eq)]
 pub struct Stop {
+    /// Why.
     pub reason: Reason,
-    /// None with codes 20 to 22 and 26.
+    /// Where; none with codes 20 to 22 and 26.
     pub at: Option<Place>,
 }
 
 /// An instruction of a case.
 #[derive(Clone, Copy, Debug, PartialEq, Eq)]
 pub struct Place {
+    /// Its processor.
     pub processor: u8,
+    /// Its number in its processor's program.
     pub place: u8,
+    /// What it is.
     pub instr: Instr,
 }
 

@@ -55,9 +55,9 @@ fn damaged_blocks_name_their_byte() {
 
 #[test]
 fn a_typed_board() {
-    let case = shapes::message().build().unwrap();
-    let on = |board| womm::board(board, &case, 4, 4).unwrap().outcomes.len();
+    let case = womm::Case::from(shapes::message().build().unwrap());
+    let on = |board| case.outcomes_on(board, 4).unwrap().outcomes.len();
     assert_eq!(Board::ALL.map(on), [3, 3, 4]);
-    assert_eq!(womm::board(Board::Sc, &case, 49, 4), Err(Reason::Bound.into()));
-    assert!(womm::board(Board::Tso, &case, 3, 4).unwrap().cut);
+    assert_eq!(case.outcomes_on(Board::Sc, 49), Err(Reason::Bound.into()));
+    assert!(case.outcomes_on(Board::Tso, 3).unwrap().cut);
 }

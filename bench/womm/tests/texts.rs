@@ -1,10 +1,13 @@
 //! The library against a reader that completes texts: every shape, every single damage, random texts.
 
+use std::fs;
+use std::path::Path;
+
 use model::block::LENGTH;
 use model::Typist;
 use random::Rng;
 use texts::{damages, random_text, Texts};
-use womm::{Guarded, TEXT};
+use womm::{check_text, Case, Guarded, TEXT};
 
 /// Reads a text by both, into a buffer of some size that held other bytes; the code and the line.
 fn read(text: &[u8], size: usize) -> (u32, u32) {
@@ -12,7 +15,7 @@ fn read(text: &[u8], size: usize) -> (u32, u32) {
     let answer = Guarded.read_text(text, &mut ours);
     assert_eq!((answer, &ours), (Texts.read_text(text, &mut theirs), &theirs), "{}", String::from_utf8_lossy(text));
     if answer.code == 0 && !answer.usual && !has_old_line(text) {
-        assert_eq!(womm::write_text(&ours).as_deref(), Ok(text));
+        assert_eq!(Case::from_block(&ours).map(|case| case.text().into_bytes()).as_deref(), Ok(text));
     }
     (answer.code, answer.line)
 }
@@ -29,16 +32,20 @@ fn write(block: &[u8], size: usize) -> u32 {
     answer.code
 }
 
-fn texts_of_shapes() -> Vec<Vec<u8>> {
-    shapes::lists().iter().map(|shape| womm::write_text(&shape.case.block()).expect("a sound case")).collect()
+fn texts_of_lists() -> Vec<Vec<u8>> {
+    shapes::lists().into_iter().map(|shape| Case::from(shape.case).text().into_bytes()).collect()
+}
+
+fn texts_of_folder() -> Vec<Vec<u8>> {
+    let held = shapes::folder(&Path::new(env!("CARGO_MANIFEST_DIR")).join("../../shapes")).expect("the folder of shapes");
+    held.into_iter().map(|path| fs::read(path).expect("a text")).collect()
 }
 
 #[test]
 fn every_shape_is_written_and_read_back() {
-    for shape in shapes::lists() {
-        let block = shape.case.block();
-        let text = womm::write_text(&block).expect("a sound case");
-        assert_eq!(womm::read_text(&text).map(|typed| typed.block), Ok(block));
+    for text in [texts_of_lists(), texts_of_folder()].concat() {
+        let block = *Case::from_text(&text).expect("a case's text").block();
+        assert_eq!(shapes::typed(&text).map(|case| case.block()), Some(block));
         for (size, code) in [(text.len(), 0), (text.len() - 1, 18), (text.len() + 9, 0), (TEXT + 1, 0), (0, 18)] {
             assert_eq!(write(&block, size), code);
         }
@@ -51,7 +58,7 @@ fn every_shape_is_written_and_read_back() {
 #[test]
 fn every_single_damage_of_every_shape() {
     let mut seen = [0; 20];
-    for text in texts_of_shapes() {
+    for text in texts_of_lists() {
         for damaged in damages(&text) {
             seen[read(&damaged, LENGTH).0 as usize] += 1;
         }
@@ -109,6 +116,7 @@ fn the_lines_that_document_02_names() {
     assert_eq!(at("case 1 1\nreg 0 0 0\n"), (0, 0));
     assert_eq!(at("case 1 1\nreg 0 0 0\nop 0 goto 2\nop 0 read 1 7\n"), (19, 4));
     assert_eq!(at("case 1 1\nop 0 read 1 7\nop 0 goto 3\n"), (17, 4));
-    assert!(womm::read_text(b"case 1 1 8\n").expect("an old text").usual);
-    assert!(!womm::read_text(b"case 1 1 0\n").expect("an old text").usual);
+    assert_eq!(["case 1 1 8\n", "case 1 1 0\n"].map(check_text), [Ok(true), Ok(false)]);
+    let words = "line 2: not one case's text";
+    assert_eq!(Case::from_text("case 1 1\nop 0 jump 0\n").unwrap_err().to_string(), words);
 }
