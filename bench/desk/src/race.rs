@@ -20,7 +20,11 @@ pub fn run(given: Arguments) -> Result<Said, Trouble> {
         return Err(schedule::stopped(&steps, racing.steps, &stop));
     }
     Ok(match racing.race {
-        None => Said::new("NO RACE: whatever touches one location is ordered, or only reads it.\n", YES),
+        None => Said::new(
+            "NO RACE: whatever touches one location is ordered, or only reads it.\n\
+             So this run ends as a sequential one does: with as many instructions, one at a time, on one memory (proved).\n",
+            YES,
+        ),
         Some(race) => {
             let line = |access: Access| format!("    action {}: {access}\n", access.action);
             let head = "RACE: nothing orders these two accesses of one location.\n";

@@ -212,7 +212,7 @@ impl Inputs {
     }
 
     /// Takes accepted steps, at most so many; an issue is preferred `eager` times in four.
-    fn steps(&mut self, run: &mut Run, most: usize, eager: usize) -> Vec<[u8; 4]> {
+    pub(crate) fn steps(&mut self, run: &mut Run, most: usize, eager: usize) -> Vec<[u8; 4]> {
         let mut steps = vec![];
         while steps.len() < most {
             let accepted = run.accepted();

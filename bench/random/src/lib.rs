@@ -9,6 +9,7 @@ mod inputs;
 mod plans;
 mod races;
 mod rng;
+mod sequential;
 mod tally;
 
 pub use boards::{compare_boards, BoardMismatch, BoardTally};
@@ -17,4 +18,5 @@ pub use inputs::{AskInput, Inputs, ListInput, Listable, ReplayInput};
 pub use plans::{compare_plans, legal_plans, random_plans, PlanInput, PlanMismatch, PlanTally};
 pub use races::{compare_races, RaceMismatch, RaceTally};
 pub use rng::Rng;
+pub use sequential::{sequential_runs, Escape, SequentialTally};
 pub use tally::Tally;

@@ -5,6 +5,7 @@
 #![forbid(unsafe_code)]
 
 mod damaged;
+mod escapes;
 mod families;
 mod lists;
 mod results;
@@ -13,6 +14,7 @@ mod stored;
 mod wishes;
 
 pub use damaged::{damaged, Damaged};
+pub use escapes::{escapes, Escape};
 pub use families::{families, Family};
 pub use lists::{lists, locked_message, message};
 pub use results::results;

@@ -20,12 +20,12 @@ fn free(reads: usize) -> BTreeSet<Vec<u16>> {
     product(&vec![&[0, 1][..]; reads])
 }
 
-fn rows(rows: &[&[u16]]) -> BTreeSet<Vec<u16>> {
+pub(crate) fn rows(rows: &[&[u16]]) -> BTreeSet<Vec<u16>> {
     rows.iter().map(|row| row.to_vec()).collect()
 }
 
 /// A shape without a loop: with this bound every run ends, so nothing is cut.
-fn ends(name: &'static str, case: CaseBuilder, watched: &[Register], results: BTreeSet<Vec<u16>>) -> Shape {
+pub(crate) fn ends(name: &'static str, case: CaseBuilder, watched: &[Register], results: BTreeSet<Vec<u16>>) -> Shape {
     let case = case.build().expect("a sound case");
     let instructions: usize = case.processors().iter().map(|processor| processor.program.len()).sum();
     Shape { name, bound: 2 * instructions as u8, cut: false, watched: watched.to_vec(), results, case }

@@ -73,7 +73,7 @@ holds (lists k c n rs cut) h =
       ),
     )
 
-every : (l : List Claim) → all test l ≡ true → Every Holds l
+pub every : (l : List Claim) → all test l ≡ true → Every Holds l
 every [] h = tt
 every (w ∷ ws) h = let v = and-both (test w) (all test ws) h in (holds w (v .0), every ws (v .1))
 

@@ -20,7 +20,7 @@ use Rattle.rules.specs.Kinds.{kind, releasing, heldBy}
 use Rattle.rules.specs.State.{State, Action, initial, kindOf, waiting, standsAt}
 use Rattle.rules.specs.Issue.{earlier, issued}
 use Rattle.rules.specs.Commit.{input, heldBack, released, committed}
-use Rattle.rules.specs.Step.{Step}
+use Rattle.rules.specs.Step.{Step, stepCode, after}
 use Rattle.rules.specs.Womm.{womm}
 use Rattle.rules.proofs.Closed.{Transitive, UpTo, Via, joinedIf-cases, joinedIf-transitive}
 use Rattle.rules.proofs.Accepted.{CanCommit}
@@ -41,41 +41,41 @@ ordered-commit c s p k e o l = joinedIf-transitive _ _ _ _ _ (o l)
 
 -- strict
 
-abbrev owner : State → ℕ → ℕ
+abbrev pub owner : State → ℕ → ℕ
 owner s j = s .actions j .proc
 
-abbrev Done : State → ℕ → Type 0
+abbrev pub Done : State → ℕ → Type 0
 Done s j = isNone (s .actions j .result) ≡ false
 
-abbrev Frees : State → ℕ → Type 0
+abbrev pub Frees : State → ℕ → Type 0
 Frees s j = releasing (kindOf (s .actions j)) ≡ true
 
 -- action j, or a later one of its processor, is a committed release
-record Freed (s : State) (j : ℕ) : Type 0 where
-  at : ℕ
-  late : j ≤ at
-  low : at < s .count
-  own : owner s at ≡ owner s j
-  frees : Frees s at
-  done : Done s at
+pub record Freed (s : State) (j : ℕ) : Type 0 where
+  pub at : ℕ
+  pub late : j ≤ at
+  pub low : at < s .count
+  pub own : owner s at ≡ owner s j
+  pub frees : Frees s at
+  pub done : Done s at
 
 -- action j may stand before action k: an earlier one of its processor, or freed
-record Before (s : State) (j k : ℕ) : Type 0 where
-  there : j < s .count
-  mine : owner s j ≡ owner s k → j < k
-  other : (owner s j ≡ owner s k → ⊥) → Freed s j
+pub record Before (s : State) (j k : ℕ) : Type 0 where
+  pub there : j < s .count
+  pub mine : owner s j ≡ owner s k → j < k
+  pub other : (owner s j ≡ owner s k → ⊥) → Freed s j
 
 -- b is the item of an action; if a is that of an action too, that may stand before it
-record Edge (s : State) (a b : ℕ) : Type 0 where
-  to : ℕ
-  is-to : b ≡ 8 + to
-  low : to < s .count
-  before : (j : ℕ) → a ≡ 8 + j → Before s j to
+pub record Edge (s : State) (a b : ℕ) : Type 0 where
+  pub to : ℕ
+  pub is-to : b ≡ 8 + to
+  pub low : to < s .count
+  pub before : (j : ℕ) → a ≡ 8 + j → Before s j to
 
-record Strict (s : State) : Type 0 where
+pub record Strict (s : State) : Type 0 where
   -- what comes before a committed release of its processor is committed
-  closed : (j k : ℕ) → j < k → k < s .count → owner s j ≡ owner s k → Frees s k → Done s k → Done s j
-  edges : (l a b : ℕ) → s .orders l a b ≡ true → Edge s a b
+  pub closed : (j k : ℕ) → j < k → k < s .count → owner s j ≡ owner s k → Frees s k → Done s k → Done s j
+  pub edges : (l a b : ℕ) → s .orders l a b ≡ true → Edge s a b
 
 -- what a step keeps of the actions before it
 record Grows (s z : State) : Type 0 where
@@ -303,12 +303,15 @@ module _ (c : Case) (s : State) (p k e : ℕ) (T : CanCommit c s p k e) where
     strict-commit : Strict (committed c s p k e)
     strict-commit = record { closed = closed-commit; edges = edge-commit }
 
+pub strict-initial : (c : Case) → Strict (initial c)
+strict-initial c = record { closed = λ j k g q. absurd (omega arith); edges = λ l a b q. absurd (false≢true q) }
+
+pub strict-step : (c : Case) (s : State) (t : Step) → stepCode c s t ≡ 0 → Strict s → Strict (after c s t)
+strict-step c = by-step c (λ n. Strict) (λ n s p I v. strict-issue c s p v) (λ n s p k e T v. strict-commit c s p k e T v) 0
+
 module _ (c : Case) (ts : List Step) (e : State) (w : Leads (womm c) (initial c) ts e) where
   strict : Strict e
-  strict =
-      always-after (womm c) Strict (λ s t. by-step c (λ n. Strict) (λ n s p I v. strict-issue c s p v) (λ n s p k e T v. strict-commit c s p k e T v) 0 s t)
-      (record { closed = λ j k g q. absurd (omega arith); edges = λ l a b q. absurd (false≢true q) })
-      ts e w
+  strict = always-after (womm c) Strict (strict-step c) (strict-initial c) ts e w
 
   pub order-transitive : (l : ℕ) → Transitive (e .orders l)
   order-transitive = always-after (womm c) Ordered (λ s t. by-step c (λ n. Ordered) (λ n s p I. ordered-issue c s p) (λ n s p k e T. ordered-commit c s p k e) 0 s t) (λ l a b d h k. absurd (false≢true h)) ts e w

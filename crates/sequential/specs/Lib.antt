@@ -1,0 +1,3 @@
+pub mod Sequential
+pub mod InOrder
+pub mod Escapes
