@@ -32,6 +32,7 @@ use Rattle.sure.specs.Equal.{Needless}
 use Rattle.machine.specs.declared.Machine.{Machine}
 use Rattle.machine.specs.Shown.{shown}
 use Rattle.machine.specs.Valid.{Valid}
+use Rattle.machine.specs.Given.{Showing}
 use Rattle.spending.specs.Words.{spentBy, keyAt, opensAt}
 use Rattle.choices.specs.Choice.{NextAt}
 use Rattle.searching.specs.declared.Span.{Span}
@@ -43,9 +44,9 @@ use Rattle.asking.proofs.Rows.{lower-rows, row-below}
 
 -- what the branch of a step is given
 pub standing-next : {c : Case} {m next : Machine} {n : ℕ} {ahead : Bool} {asked : Asked} → Standing c m n ahead asked → (t : Step) → stepCode c (shown c m) t ≡ 0
-    → (shown c next ≡ after c (shown c m) t) × Valid c next → Standing c next (n - 1) ahead asked
+    → Showing c (after c (shown c m) t) next → Standing c next (n - 1) ahead asked
 standing-next {c} {m} S t h took =
-    record { valid = took .1; reached = subst (Reachable (womm c)) (sym (took .0)) (reachable-step (womm c) (S .reached) t h); forwards = S .forwards; few = omega (arith, S .few); asks = S .asks }
+    record { valid = took .valid; reached = subst (Reachable (womm c)) (sym (took .shows)) (reachable-step (womm c) (S .reached) t h); forwards = S .forwards; few = omega (arith, S .few); asks = S .asks }
 
 -- what a search after a step says
 module _ {c : Case} {W : List ℕ → Bool} (s : State) {next : State} {n : ℕ} {r : Reach} (t : Step) (shows : next ≡ after c s t) (F : ReachOf c W next n r) where
@@ -229,15 +230,15 @@ module _ (c : Case) (W : Wish) (n : ℕ) (most : n ≤ 96) where
     room-left l = omega (arith, D .size, D .count)
 
     -- one step down
-    pub descending-more : 0 < left → finished c (shown c m) ≡ false → (j : ℕ) → LowestAt c W (shown c m) (left - 1) j → {next : Machine} → (shown c next ≡ after c (shown c m) (stepAt (shown c m) j)) × Valid c next
+    pub descending-more : 0 < left → finished c (shown c m) ≡ false → (j : ℕ) → LowestAt c W (shown c m) (left - 1) j → {next : Machine} → Showing c (after c (shown c m) (stepAt (shown c m) j)) next
         → {w x y z : ℕ} → stepBytes (stepAt (shown c m) j) ≡ (w ∷ x ∷ y ∷ z ∷ []) → Descending c W n next (left - 1) (at + 4) (set (set (set (set out at w) (at + 1) x) (at + 2) y) (at + 3) z)
     descending-more l f j T {next} took {w} {x} {y} {z} written-as =
         let t = stepAt (shown c m) j in
         let one : suc (left - 1) ≡ left = omega arith in
         record {
-          valid = took .1;
-          reached = subst (Reachable (womm c)) (sym (took .0)) (reachable-step (womm c) (D .reached) t (T .fits));
-          held = subst (λ (s : State). InReach c W s (left - 1)) (sym (took .0)) (T .held);
+          valid = took .valid;
+          reached = subst (Reachable (womm c)) (sym (took .shows)) (reachable-step (womm c) (D .reached) t (T .fits));
+          held = subst (λ (s : State). InReach c W s (left - 1)) (sym (took .shows)) (T .held);
           steps = D .steps ++ (t ∷ []);
           count = omega (arith, append-length (D .steps) t, D .count);
           size = omega (arith, append-length (D .steps) t, D .size);
@@ -247,7 +248,7 @@ module _ (c : Case) (W : Wish) (n : ℕ) (most : n ≤ 96) where
               (D .on (t ∷ ts)
               (subst (λ (k : ℕ). LowestFrom (womm c) W stepBytes (shown c m) k (t ∷ ts)) one
               (lowest-step (womm c) (still c) W stepBytes (written c) (shown c m) (left - 1) t ts f (T .fits) (T .barred)
-              (subst (λ (s : State). LowestFrom (womm c) W stepBytes s (left - 1) ts) (took .0) L))));
+              (subst (λ (s : State). LowestFrom (womm c) W stepBytes s (left - 1) ts) (took .shows) L))));
         }
       where
         rest : ℕ

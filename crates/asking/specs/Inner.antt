@@ -124,3 +124,10 @@ pub record LowestAt (c : Case) (W : Wish) (s : State) (n j : ℕ) : Type 0 where
   pub fits : stepCode c s (stepAt s j) ≡ 0
   pub held : InReach c W (after c s (stepAt s j)) n
   pub barred : (u : Step) → stepCode c s u ≡ 0 → below (stepBytes u) (stepBytes (stepAt s j)) ≡ true → InReach c W (after c s u) n → ⊥
+
+-- A case, a bound, clauses that can be asked, and a buffer at its size.
+pub record Settling (c : Case) (n : ℕ) (asked : Asked) (out : List ℕ) : Type 0 where
+  pub fit : Fit c
+  pub few : n ≤ 96
+  pub asks : Askable asked
+  pub long : length out ≡ 384

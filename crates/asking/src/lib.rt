@@ -10,15 +10,14 @@ ghost use mathlib.Core.Bool.{true, false};
 ghost use mathlib.Core.List.{[], _∷_};
 ghost use Prim.Native.Nat.{_+_, _-_, _≤_, _<_};
 ghost use lib.ListN.{length, set};
-ghost use Rattle.clauses.specs.Wanted.{wanted, Askable, clausesOf};
+ghost use Rattle.clauses.specs.Wanted.{wanted, clausesOf};
 ghost use Rattle.runs.specs.Asking.{Laid, IsAnswer, Refused};
 ghost use Rattle.rules.specs.Result.{finished};
 ghost use Rattle.rules.specs.Womm.{womm};
 ghost use Rattle.rules.specs.Bytes.{stepBytes};
-ghost use Rattle.machine.specs.Fit.{Fit};
 ghost use Rattle.machine.specs.Shown.{shown};
 ghost use Rattle.asking.specs.Asked.{answerOf, badClause, badClauses, IsAsked};
-ghost use Rattle.asking.specs.Inner.{Standing, Looking, Leading, Rowed, Fitting, Wanting, ReachOf, stepAt, FirstInReach, RowSpan, LowestAt};
+ghost use Rattle.asking.specs.Inner.{Standing, Looking, Leading, Rowed, Fitting, Wanting, ReachOf, stepAt, FirstInReach, RowSpan, LowestAt, Settling};
 
 // Whether an outcome is within reach, and, if none is, whether a run was cut.
 pub struct Reach {
@@ -198,7 +197,7 @@ fn lowest(c: Case, n: usize, ahead: bool, asked: Asked, out: &mut [u8]) -> usize
 
 // Answers for a case, within n steps.
 pub fn settle(c: Case, n: usize, asked: Asked, out: &mut [u8]) -> Answer
-    requires { ⌜ Fit c × (n ≤ 96) × Askable asked × (length (now out) ≡ 384) ⌝ }
+    requires { ⌜ Settling c n asked (now out) ⌝ }
     ensures { λ r. ⌜ IsAnswer (womm c) (wanted asked) stepBytes n 384 (answerOf r) (now (out .exit)) × (r .position ≡ 0) ⌝ }
 {
     records::clear(out);

@@ -24,10 +24,11 @@ ghost use Rattle.orders.specs.Rows.{orderOf, SetOf};
 ghost use Rattle.machine.specs.Shown.{holderOf, placeOf, namesOf, shownEntry, shown, ordersOf, Acts};
 ghost use Rattle.machine.specs.Fit.{Fit};
 ghost use Rattle.machine.specs.Valid.{Valid};
-ghost use Rattle.committing.specs.Committed.{Entries};
+ghost use Rattle.machine.specs.Given.{Showing};
 ghost use Rattle.spending.specs.Words.{keyAt, opens};
 ghost use Rattle.choices.specs.Choice.{SureAt, QuietAt, NextAt};
 ghost use Rattle.choices.specs.Opening.{writeTo, givenTo, Covers, queuedRead, readyRead, machineOf, FirstFresh, SureCommit, DeadAt, SettledRead};
+ghost use Rattle.choices.specs.Given.{Turning, Ending, At, Of, Entered, EnteredAt, Committing, CommittingOne, Naming, Word, Span, Scanning, Going, Taking};
 
 // Whether the instruction, at a place, may lead back to that place or before it.
 fn leads_back(i: Instr, place: usize) -> bool
@@ -40,7 +41,7 @@ fn leads_back(i: Instr, place: usize) -> bool
 
 // Whether an instruction of processor p may lead back.
 fn turns_back(c: Case, p: usize) -> bool
-    requires { ⌜ Fit c × (p < 4) ⌝ }
+    requires { ⌜ Turning c p ⌝ }
     ensures { λ r. ⌜ r ≡ someBelow (countOf c p) (λ i. backward (instrAt c p i) i) ⌝ }
 {
     let top = words::wide(c.counts[p]);
@@ -82,7 +83,7 @@ fn given_at(e: Entry, l: usize) -> bool
 
 // The write items of location l.
 fn write_items(acts: [Entry; 48], issued: usize, l: usize) -> u64
-    requires { ⌜ (issued ≤ 48) × (length acts ≡ 48) × (l < 8) ⌝ }
+    requires { ⌜ At issued acts l ⌝ }
     ensures { λ r. ⌜ ((c : TheCase) (s : State) → Acts c issued acts s → SetOf (8 + issued) (writes s l) r) ⌝ }
 {
     let mut items = words::one(l);
@@ -98,7 +99,7 @@ fn write_items(acts: [Entry; 48], issued: usize, l: usize) -> u64
 
 // The write items of location l that have their value.
 fn given_items(acts: [Entry; 48], issued: usize, l: usize) -> u64
-    requires { ⌜ (issued ≤ 48) × (length acts ≡ 48) × (l < 8) ⌝ }
+    requires { ⌜ At issued acts l ⌝ }
     ensures { λ r. ⌜ ((c : TheCase) (s : State) → Acts c issued acts s → SetOf (8 + issued) (givenTo c s l) r) ⌝ }
 {
     let mut items = words::one(l);
@@ -159,7 +160,7 @@ fn uncovered(rows: &[u64; 56], items: u64, gone: u64, n: usize, i: usize) -> u64
 
 // The items that are visible to the read item i of location l.
 fn visible_items(rows: &[u64; 56], acts: [Entry; 48], issued: usize, l: usize, i: usize) -> u64
-    requires { ⌜ (issued ≤ 48) × (length acts ≡ 48) × (l < 8) ⌝ }
+    requires { ⌜ At issued acts l ⌝ }
     ensures { λ r. ⌜ ((c : TheCase) (s : State) → Acts c issued acts s → s .orders ≡ ordersOf c (s .actions) (now (rows .entry)) → l < c .locs → standsIn (s .actions) l i ≡ true → (e : ℕ) → inSet r e ≡ visible c s l i e) ⌝ }
 {
     let items = write_items(acts, issued, l);
@@ -179,7 +180,7 @@ fn read_queued(e: Entry, procs: u8) -> bool
 
 // Whether action k is a read that may be committed from every visible item.
 fn read_ready(c: Case, acts: [Entry; 48], issued: usize, k: usize) -> bool
-    requires { ⌜ (issued ≤ 48) × (length acts ≡ 48) × (k < issued) ⌝ }
+    requires { ⌜ Of issued acts k ⌝ }
     ensures { λ r. ⌜ ((s : State) → Acts c issued acts s → r ≡ readyRead c s k) ⌝ }
 {
     let e = acts[k];
@@ -194,7 +195,7 @@ fn read_ready(c: Case, acts: [Entry; 48], issued: usize, k: usize) -> bool
 
 // The items that the commit of read k may name; none of another action.
 fn sources(c: Case, rows: &[u64; 56], acts: [Entry; 48], issued: usize, k: usize) -> u64
-    requires { ⌜ (issued ≤ 48) × (length acts ≡ 48) × (k < issued) × Entries c issued acts ⌝ }
+    requires { ⌜ EnteredAt c issued acts k ⌝ }
     ensures { λ r. ⌜ ((s : State) → Acts c issued acts s → s .orders ≡ ordersOf c (s .actions) (now (rows .entry)) → (e : ℕ) → inSet r e ≡ opens c s k e) ⌝ }
 {
     if !read_ready(c, acts, issued, k) {
@@ -214,7 +215,7 @@ fn may_commit<'a>(
     issued: usize,
     k: usize,
 ) -> bool
-    requires { ⌜ (issued ≤ 48) × (length acts ≡ 48) × (length (now holders) ≡ 8) × (k < issued) × Entries c issued acts × (c .procs ≤ 4) ⌝ }
+    requires { ⌜ CommittingOne c issued acts (now holders) k ⌝ }
     ensures { λ r. ⌜ ((s : State) → Acts c issued acts s → s .orders ≡ ordersOf c (s .actions) (now (rows .entry)) → s .holders ≡ (λ l. holderOf (getD (now (holders .entry)) l 0)) → r ≡ eqb (stepCode c s (commit (s .actions k .proc) k 0)) 0) ⌝ }
 {
     let e = acts[k];
@@ -234,7 +235,7 @@ fn lone_open<'a>(
     issued: usize,
     k: usize,
 ) -> bool
-    requires { ⌜ (issued ≤ 48) × (length acts ≡ 48) × (length (now holders) ≡ 8) × (k < issued) × Entries c issued acts × (c .procs ≤ 4) ⌝ }
+    requires { ⌜ CommittingOne c issued acts (now holders) k ⌝ }
     ensures { λ r. ⌜ ((s : State) → Acts c issued acts s → s .orders ≡ ordersOf c (s .actions) (now (rows .entry)) → s .holders ≡ (λ l. holderOf (getD (now (holders .entry)) l 0)) → r ≡ opens c s 48 k) ⌝ }
 {
     let e = acts[k];
@@ -253,7 +254,7 @@ fn commits<'a>(
     acts: [Entry; 48],
     issued: usize,
 ) -> u64
-    requires { ⌜ (issued ≤ 48) × (length acts ≡ 48) × (length (now holders) ≡ 8) × Entries c issued acts × (c .procs ≤ 4) ⌝ }
+    requires { ⌜ Committing c issued acts (now holders) ⌝ }
     ensures { λ r. ⌜ ((s : State) → Acts c issued acts s → s .orders ≡ ordersOf c (s .actions) (now (rows .entry)) → s .holders ≡ (λ l. holderOf (getD (now (holders .entry)) l 0)) → SetOf issued (opens c s 48) r) ⌝ }
 {
     let mut items: u64 = 0;
@@ -316,7 +317,7 @@ fn open_word<'a>(
     issued: usize,
     w: usize,
 ) -> u64
-    requires { ⌜ Valid c (machineOf issued (now places) (now names) (now holders) acts (now rows)) × (w < 50) ⌝ }
+    requires { ⌜ Word c (machineOf issued (now places) (now names) (now holders) acts (now rows)) w ⌝ }
     ensures { λ r. ⌜ ((e : ℕ) → e < 64 → inSet r e ≡ opens c (shown c (machineOf issued (now (places .entry)) (now (names .entry)) (now (holders .entry)) acts (now (rows .entry)))) w e) ⌝ }
 {
     if w < 48 {
@@ -333,7 +334,7 @@ fn open_word<'a>(
 
 // The first position from j on, before `end`, whose bit is set and that is not spent, else `end`.
 fn first_fresh(word: u64, spent: &[u64; 50], j: usize, end: usize) -> usize
-    requires { ⌜ (j ≤ end) × (end ≤ 3200) ⌝ }
+    requires { ⌜ Span j end ⌝ }
     ensures { λ r. ⌜ FirstFresh word (now (spent .entry)) j end r ⌝ }
 {
     if word == 0 {
@@ -365,7 +366,7 @@ fn word_end(j: usize, to: usize) -> usize
 
 // The first position from `at` on whose step is accepted and neither spent nor needless, or `to` where there is none before it.
 pub fn next_step(c: Case, m: Machine, spent: &[u64; 50], at: usize, to: usize) -> usize
-    requires { ⌜ Valid c m × (at ≤ to) × (to ≤ 3200) × (length (now spent) ≡ 50) ⌝ }
+    requires { ⌜ Scanning c m (now spent) at to ⌝ }
     ensures { λ r. ⌜ NextAt c (shown c m) (now (spent .entry)) at to r ⌝ }
 {
     let acts = m.acts;
@@ -401,7 +402,7 @@ fn sure_commit<'a>(
     acts: [Entry; 48],
     issued: usize,
 ) -> usize
-    requires { ⌜ (issued ≤ 48) × (length acts ≡ 48) × (length (now holders) ≡ 8) × Entries c issued acts × (c .procs ≤ 4) ⌝ }
+    requires { ⌜ Committing c issued acts (now holders) ⌝ }
     ensures { λ r. ⌜ ((s : State) → Acts c issued acts s → s .orders ≡ ordersOf c (s .actions) (now (rows .entry)) → s .holders ≡ (λ l. holderOf (getD (now (holders .entry)) l 0)) → SureCommit c s r) ⌝ }
 {
     let mut k: usize = 0;
@@ -472,7 +473,7 @@ fn first_dead<'a>(
     acts: [Entry; 48],
     issued: usize,
 ) -> usize
-    requires { ⌜ (issued ≤ 48) × (length acts ≡ 48) × (length (now names) ≡ 32) × Entries c issued acts ⌝ }
+    requires { ⌜ Naming c issued acts (now names) ⌝ }
     ensures { λ r. ⌜ ((s : State) → Acts c issued acts s → s .names ≡ namesOf c (now (names .entry)) → s .orders ≡ ordersOf c (s .actions) (now (rows .entry)) → r < 3200 → DeadAt c s r) ⌝ }
 {
     let inner = needless::ignored(names, acts, issued);
@@ -493,7 +494,7 @@ fn first_dead<'a>(
 
 // The position of an accepted step that may be taken alone, with n steps to go: a sure one, any issue once the cut mark is set, or the commit of a dead read; 3200 where none was found.
 pub fn sure_step(c: Case, m: Machine, n: usize, ahead: bool, marked: bool) -> usize
-    requires { ⌜ Valid c m × (ahead ≡ isForward c) × (n ≤ 96) ⌝ }
+    requires { ⌜ Going c m n ahead ⌝ }
     ensures { λ r. ⌜ SureAt c marked n (shown c m) r ⌝ }
 {
     let acts = m.acts;
@@ -513,7 +514,7 @@ pub fn sure_step(c: Case, m: Machine, n: usize, ahead: bool, marked: bool) -> us
 
 // Whether every place counter is at its processor's count.
 fn ended(c: Case, places: &[u8; 4]) -> bool
-    requires { ⌜ Fit c × (length (now places) ≡ 4) ⌝ }
+    requires { ⌜ Ending c (now places) ⌝ }
     ensures { λ r. ⌜ ((s : State) → s .places ≡ (λ q. placeOf (getD (now (places .entry)) q 0)) → r ≡ hasEnded c s) ⌝ }
 {
     let top = words::wide(c.procs);
@@ -553,7 +554,7 @@ fn write_pending(acts: [Entry; 48], issued: usize, l: usize) -> bool
 
 // Whether read k has a source, and no write to its location is queued.
 fn settled_read(c: Case, rows: &[u64; 56], acts: [Entry; 48], issued: usize, k: usize) -> bool
-    requires { ⌜ (issued ≤ 48) × (length acts ≡ 48) × (k < issued) × Entries c issued acts ⌝ }
+    requires { ⌜ EnteredAt c issued acts k ⌝ }
     ensures { λ r. ⌜ ((s : State) → Acts c issued acts s → s .orders ≡ ordersOf c (s .actions) (now (rows .entry)) → r ≡ true → SettledRead c s k) ⌝ }
 {
     if sources(c, rows, acts, issued, k) == 0 {
@@ -566,7 +567,7 @@ fn settled_read(c: Case, rows: &[u64; 56], acts: [Entry; 48], issued: usize, k: 
 
 // The first read with a source to whose location no write is queued, else 48.
 fn first_settled(c: Case, rows: &[u64; 56], acts: [Entry; 48], issued: usize) -> usize
-    requires { ⌜ (issued ≤ 48) × (length acts ≡ 48) × Entries c issued acts ⌝ }
+    requires { ⌜ Entered c issued acts ⌝ }
     ensures { λ r. ⌜ (r ≤ 48) × ((s : State) → Acts c issued acts s → s .orders ≡ ordersOf c (s .actions) (now (rows .entry)) → r < 48 → SettledRead c s r) ⌝ }
 {
     let mut k: usize = 0;
@@ -604,8 +605,8 @@ pub fn source_at(j: usize) -> usize
 
 // The machine after the step at position j, which is accepted.
 pub fn take(c: Case, m: Machine, j: usize) -> Machine
-    requires { ⌜ Valid c m × (j < 3200) × (stepCode c (shown c m) (stepBy (shown c m) (keyAt j)) ≡ 0) ⌝ }
-    ensures { λ r. ⌜ (shown c r ≡ after c (shown c m) (stepBy (shown c m) (keyAt j))) × Valid c r ⌝ }
+    requires { ⌜ Taking c m j ⌝ }
+    ensures { λ r. ⌜ Showing c (after c (shown c m) (stepBy (shown c m) (keyAt j))) r ⌝ }
 {
     if 49 <= j / 64 {
         return issuing::issue(c, m, j % 64);

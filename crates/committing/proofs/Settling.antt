@@ -19,7 +19,7 @@ use Rattle.rules.specs.Kinds.{kind, branching, acquiring, syncs, labelOf}
 use Rattle.rules.specs.Order.{Order, joinedIf}
 use Rattle.rules.specs.State.{Action, State, kindOf, valueOf, inputOf, itemValue}
 use Rattle.rules.specs.Commit.{input, resultOf, committed}
-use Rattle.rules.specs.Step.{commit, stepCode, after as afterStep}
+use Rattle.rules.specs.Step.{commit, after as afterStep}
 use Rattle.rules.proofs.Accepted.{CanCommit, can-commit}
 use Rattle.oneorder.specs.OneOrder.{OneState, view, committedOne, afterOne}
 use Rattle.orders.specs.Rows.{orderOf}
@@ -28,6 +28,7 @@ use Rattle.machine.specs.declared.Machine.{Machine}
 use Rattle.machine.specs.Shown.{shownEntry, blankEntry, shownOne, shown, nameOf, placeOf, holderOf}
 use Rattle.machine.specs.Fit.{Fine}
 use Rattle.machine.specs.Valid.{Valid, ValidEntry, ValidPlace}
+use Rattle.machine.specs.Given.{Accepted, Showing}
 use Rattle.machine.proofs.Entries.{action-at}
 use Rattle.machine.proofs.Ordered.{after-shows, after-reached}
 use Rattle.machine.proofs.Stores.{set-put, set-all, actions-set, place-some}
@@ -145,7 +146,10 @@ label-small (Acquire a) f = omega arith
 label-small (Release a) f = omega arith
 
 -- an accepted commit
-module _ (c : Case) (m : Machine) (p k src : ℕ) (v : Valid c m) (go : stepCode c (shown c m) (commit p k src) ≡ 0) where
+module _ (c : Case) (m : Machine) (p k src : ℕ) (ok : Accepted c m (commit p k src)) where
+  abbrev v : Valid c m
+  v = ok .valid
+
   abbrev pub e : Entry
   e = getD (m .acts) k blankEntry
 
@@ -162,7 +166,7 @@ module _ (c : Case) (m : Machine) (p k src : ℕ) (v : Valid c m) (go : stepCode
   value = orZero (itemValue c s src)
 
   can : CanCommit c s p k src
-  can = can-commit c s p k src go
+  can = can-commit c s p k src (ok .fits)
 
   pub commit-low : p < 4
   commit-low = omega (arith, can .proc, v .fit .procs)
@@ -210,7 +214,7 @@ module _ (c : Case) (m : Machine) (p k src : ℕ) (v : Valid c m) (go : stepCode
 
     shows : shown c after ≡ committed c s p k src
     unfolding afterStep
-    shows = after-shows c m after (commit p k src) (v .reached) go kept
+    shows = after-shows c m after (commit p k src) (v .reached) (ok .fits) kept
 
     valid : Valid c after
     valid =
@@ -226,12 +230,12 @@ module _ (c : Case) (m : Machine) (p k src : ℕ) (v : Valid c m) (go : stepCode
           rows-long = long;
           places = set-all ValidPlace (m .places) 0 4 p _ room (place-valid (m .places) p (e .place) (labelOf i) first room (commit-entry .place) (label-small i (commit-entry .fine)) (branching (kind i)) (v .places p commit-low)) (λ q h n. v .places q h);
           entries = set-all (ValidEntry c) (m .acts) blankEntry (m .issued) k _ (omega (arith, v .acts-long, v .issued, commit-there)) (record { fine = commit-entry .fine; place = commit-entry .place; loc = commit-entry .loc; present = commit-entry .present }) (λ q h n. v .entries q h);
-          reached = after-reached c m after (commit p k src) (v .reached) go kept;
+          reached = after-reached c m after (commit p k src) (v .reached) (ok .fits) kept;
         }
 
   pub settled-is : (q x place result : ℕ) (holders rows : List ℕ) → q ≡ kind (e .instr) → x ≡ first → Acquired (m .issued) (m .acts) q x (8 + k) (m .rows) rows
       → place ≡ placeBy q (getD (m .places) p 0) x (e .place) (e .instr) → holders ≡ lockedBy q (m .holders) x p → result ≡ resultBy value x second (e .instr)
-      → (shown c (settled m p k place holders (doneBy e result) rows) ≡ committed c s p k src) × Valid c (settled m p k place holders (doneBy e result) rows)
+      → Showing c (committed c s p k src) (settled m p k place holders (doneBy e result) rows)
   settled-is q x place result holders rows hq hx ho hp hh hr =
       let i = e .instr in
       let qo : orderOf rows ≡ joinedIf (acquiring (kind i)) (orderOf (m .rows)) (8 + k) (8 + m .issued) (releases s first) = ho .joins c s (record { count = refl; actions = refl }) ∙ (λ j. joinedIf (acquiring (hq j)) (orderOf (m .rows)) (8 + k) (8 + m .issued) (releases s (hx j))) in
@@ -239,4 +243,4 @@ module _ (c : Case) (m : Machine) (p k src : ℕ) (v : Valid c m) (go : stepCode
       let qh = hh ∙ (λ j. lockedBy (hq j) (m .holders) (hx j) p) in
       let qr = hr ∙ (λ j. resultBy value (hx j) second i) in
       let path : settled m p k place holders (doneBy e result) rows ≡ after rows (ho .size) qo = λ j. settled m p k (qp j) (qh j) (doneBy e (qr j)) rows in
-      subst (λ (n : Machine). (shown c n ≡ committed c s p k src) × Valid c n) (sym path) (shows rows (ho .size) qo, valid rows (ho .size) qo)
+      subst (Showing c (committed c s p k src)) (sym path) (record { shows = shows rows (ho .size) qo; valid = valid rows (ho .size) qo })

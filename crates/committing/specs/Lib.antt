@@ -1,1 +1,2 @@
 pub mod Committed
+pub mod Given

@@ -16,12 +16,13 @@ ghost use Rattle.cases.specs.declared.Case.{Case as TheCase};
 ghost use Rattle.rules.specs.Kinds.{reading, writing, releasing, reads, labelOf};
 ghost use Rattle.rules.specs.State.{State, kindOf, valueOf};
 ghost use Rattle.rules.specs.Commit.{writes as writesOf, visible, barred, commitRefusals, committed as committedOf};
-ghost use Rattle.rules.specs.Step.{commit as commitStep, stepCode};
+ghost use Rattle.rules.specs.Step.{commit as commitStep};
 ghost use Rattle.oneorder.specs.OneOrder.{standsIn};
 ghost use Rattle.orders.specs.Rows.{orderOf, SetOf};
 ghost use Rattle.machine.specs.Shown.{holderOf, nameOf, shownEntry, shown, ordersOf, Acts};
-ghost use Rattle.machine.specs.Valid.{Valid, ValidEntry};
-ghost use Rattle.committing.specs.Committed.{Entries, holding, releases, Acquired, restRefusals, resultBy, branchTo, placeBy, lockedBy};
+ghost use Rattle.machine.specs.Given.{Accepted, Showing};
+ghost use Rattle.committing.specs.Committed.{holding, releases, Acquired, restRefusals, resultBy, branchTo, placeBy, lockedBy};
+ghost use Rattle.committing.specs.Given.{Hiding, Asking, AskingOne, Locking, Acquiring};
 
 // Whether a queued entry of processor p holds back the commit of a kind at a location.
 fn holds(e: Entry, p: usize, kind: u8, loc: u8) -> bool
@@ -80,7 +81,7 @@ fn writes(acts: [Entry; 48], issued: usize, l: usize, w: usize) -> bool
 
 // Whether a write item of location l stands after item w and before item i.
 fn hidden(acts: [Entry; 48], rows: &[u64; 56], issued: usize, l: usize, i: usize, w: usize) -> bool
-    requires { ⌜ (issued ≤ 48) × (length acts ≡ 48) × (l < 8) ⌝ }
+    requires { ⌜ Hiding issued acts l ⌝ }
     ensures { λ r. ⌜ ((c : TheCase) (s : State) → Acts c issued acts s → r ≡ someBelow (8 + s .count) (λ v. writesOf s l v && (orderOf (now (rows .entry)) w v && orderOf (now (rows .entry)) v i))) ⌝ }
 {
     let a = orders::before(rows, w, l);
@@ -108,7 +109,7 @@ fn sees(
     i: usize,
     w: usize,
 ) -> bool
-    requires { ⌜ (issued ≤ 48) × (length acts ≡ 48) × (l < 8) ⌝ }
+    requires { ⌜ Hiding issued acts l ⌝ }
     ensures { λ r. ⌜ ((s : State) → Acts c issued acts s → s .orders ≡ ordersOf c (s .actions) (now (rows .entry)) → l < c .locs → standsIn (s .actions) l i ≡ true → r ≡ visible c s l i w) ⌝ }
 {
     let x = writes(acts, issued, l, w);
@@ -216,7 +217,7 @@ fn rest_code<'a>(
     k: usize,
     src: usize,
 ) -> u8
-    requires { ⌜ (issued ≤ 48) × (length acts ≡ 48) × (length (now holders) ≡ 8) × (p < 4) × (k < issued) × ValidEntry c e ⌝ }
+    requires { ⌜ AskingOne c issued acts (now holders) e p k ⌝ }
     ensures { λ r. ⌜ ((s : State) → Acts c issued acts s → s .orders ≡ ordersOf c (s .actions) (now (rows .entry)) → s .actions k ≡ shownEntry c e → s .holders ≡ (λ l. holderOf (getD (now (holders .entry)) l 0)) → r ≡ firstOf (restRefusals c s p k src (shownEntry c e))) ⌝ }
 {
     let i = e.instr;
@@ -252,7 +253,7 @@ pub fn commit_code<'a>(
     k: usize,
     src: usize,
 ) -> u8
-    requires { ⌜ (issued ≤ 48) × (length acts ≡ 48) × (length (now holders) ≡ 8) × (p < 4) × Entries c issued acts ⌝ }
+    requires { ⌜ Asking c issued acts (now holders) p ⌝ }
     ensures { λ r. ⌜ ((s : State) → Acts c issued acts s → s .orders ≡ ordersOf c (s .actions) (now (rows .entry)) → s .holders ≡ (λ l. holderOf (getD (now (holders .entry)) l 0)) → r ≡ firstOf (commitRefusals c s p k src)) ⌝ }
 {
     if issued <= k {
@@ -333,7 +334,7 @@ fn put_holder(h: [u8; 8], x: usize, v: u8) -> [u8; 8]
 
 // The holders after a commit of a kind by processor p, at location x.
 pub fn locked_by(kind: u8, h: [u8; 8], x: usize, p: usize) -> [u8; 8]
-    requires { ⌜ (p < 4) × (length h ≡ 8) ⌝ }
+    requires { ⌜ Locking h p ⌝ }
     ensures { λ r. ⌜ r ≡ lockedBy kind h x p ⌝ }
 {
     if kind == 6 {
@@ -380,7 +381,7 @@ fn order_acquire(
     x: usize,
     item: usize,
 )
-    requires { ⌜ (issued ≤ 48) × (length acts ≡ 48) × (item < 56) × (length (now rows) ≡ 56) ⌝ }
+    requires { ⌜ Acquiring issued acts item (now rows) ⌝ }
     ensures { λ _. ⌜ Acquired issued acts kind x item (now (rows .entry)) (now (rows .exit)) ⌝ }
 {
     if kind == 6 {
@@ -391,8 +392,8 @@ fn order_acquire(
 
 // The machine after the commit of action k of processor p, which nothing refuses.
 pub fn commit(c: Case, m: Machine, p: usize, k: usize, src: usize) -> Machine
-    requires { ⌜ Valid c m × (stepCode c (shown c m) (commitStep p k src) ≡ 0) ⌝ }
-    ensures { λ r. ⌜ (shown c r ≡ committedOf c (shown c m) p k src) × Valid c r ⌝ }
+    requires { ⌜ Accepted c m (commitStep p k src) ⌝ }
+    ensures { λ r. ⌜ Showing c (committedOf c (shown c m) p k src) r ⌝ }
 {
     let issued = m.issued;
     let acts = m.acts;

@@ -21,7 +21,7 @@ use Rattle.rules.specs.Kinds.{accesses, assigns}
 use Rattle.rules.specs.Order.{joinedIf}
 use Rattle.rules.specs.State.{Name, given, Action, kindOf}
 use Rattle.rules.specs.Issue.{placeAfter, renamed, newAction, issued}
-use Rattle.rules.specs.Step.{issue, stepCode, after as afterStep}
+use Rattle.rules.specs.Step.{issue, after as afterStep}
 use Rattle.rules.proofs.Accepted.{CanIssue, can-issue}
 use Rattle.oneorder.specs.OneOrder.{OneState, hasItem, issuedOne, afterOne}
 use Rattle.orders.specs.Rows.{orderOf}
@@ -31,6 +31,7 @@ use Rattle.machine.specs.declared.Machine.{Machine}
 use Rattle.machine.specs.Shown.{shownEntry, blankEntry, shownOne, shown, nameOf, namesOf, placeOf}
 use Rattle.machine.specs.Fit.{Fine}
 use Rattle.machine.specs.Valid.{Valid, ValidEntry, ValidPlace}
+use Rattle.machine.specs.Given.{Accepted, Showing}
 use Rattle.machine.proofs.Ordered.{after-shows, after-reached}
 use Rattle.machine.proofs.Stores.{set-put, set-all, actions-set, place-some}
 use Rattle.issuing.specs.Issued.{assignedBy, placeBy, fresh, after, Ordered, Entering}
@@ -144,15 +145,15 @@ unfolding issued issuedOne afterOne
 entered-is c m p = refl
 
 -- an accepted issue
-module _ (c : Case) (m : Machine) (p : ℕ) (v : Valid c m) (go : stepCode c (shown c m) (issue p) ≡ 0) where
+module _ (c : Case) (m : Machine) (p : ℕ) (ok : Accepted c m (issue p)) where
   abbrev at : ℕ
   at = getD (m .places) p 0
 
   can : CanIssue c (shown c m) p
-  can = can-issue c (shown c m) p go
+  can = can-issue c (shown c m) p (ok .fits)
 
   pub issue-low : p < 4
-  issue-low = omega (arith, can .proc, v .fit .procs)
+  issue-low = omega (arith, can .proc, ok .valid .fit .procs)
 
   pub issue-room : m .issued < 48
   issue-room = leb-false 48 (m .issued) (can .room)
@@ -168,31 +169,31 @@ module _ (c : Case) (m : Machine) (p : ℕ) (v : Valid c m) (go : stepCode c (sh
   issue-inside = leb-false (countOf c p) at (subst (λ (o : Option ℕ). leb (countOf c p) (orZero o) ≡ false) there (can .inside))
 
   pub issue-fine : Fine (instrAt c p at)
-  issue-fine = v .fit .fine p at issue-low issue-inside
+  issue-fine = ok .valid .fit .fine p at issue-low issue-inside
 
   pub issue-new : (e : Entry) → shownEntry c e ≡ fresh (shown c m) p at (instrAt c p at) → shownEntry c e ≡ newAction c (shown c m) p
   issue-new e h =
       h
       ∙ ap (λ (o : Option ℕ). fresh (shown c m) p (orZero o) (instrAt c p (orZero o))) (sym there)
-      ∙ fresh-is c (shown c m) p (v .fit .locs) (can .low)
+      ∙ fresh-is c (shown c m) p (ok .valid .fit .locs) (can .low)
 
   pub issue-entry : (e : Entry) → shownEntry c e ≡ fresh (shown c m) p at (instrAt c p at) → ValidEntry c e
   issue-entry e h = record {
     fine = subst Fine (sym (ap (λ (a : Action). a .instr) h)) issue-fine;
-    place = omega (arith, ap (λ (a : Action). a .place) h, issue-inside, v .fit .counts p);
-    loc = omega (arith, ap (λ (a : Action). a .loc) (issue-new e h), new-low c (shown c m) p (v .fit .locs) (can .low));
-    present = λ a. subst (λ (l : ℕ). l < c .locs) (sym (ap (λ (x : Action). x .loc) (issue-new e h))) (new-present c (shown c m) p (v .fit .locs) (can .low) (subst (λ (x : Action). accesses (kindOf x) ≡ true) (issue-new e h) a));
+    place = omega (arith, ap (λ (a : Action). a .place) h, issue-inside, ok .valid .fit .counts p);
+    loc = omega (arith, ap (λ (a : Action). a .loc) (issue-new e h), new-low c (shown c m) p (ok .valid .fit .locs) (can .low));
+    present = λ a. subst (λ (l : ℕ). l < c .locs) (sym (ap (λ (x : Action). x .loc) (issue-new e h))) (new-present c (shown c m) p (ok .valid .fit .locs) (can .low) (subst (λ (x : Action). accesses (kindOf x) ≡ true) (issue-new e h) a));
   }
 
 module _ (c : Case) (m : Machine) (p place : ℕ) (names : List ℕ) (e : Entry) (rows : List ℕ) (E : Entering c m p e names) (hp : place ≡ placeBy (e .instr) (e .place)) (o : Ordered (m .issued) (m .acts) p e (m .rows) rows) where
   abbrev v : Valid c m
-  v = E .valid
+  v = E .accepted .valid
 
   abbrev low : p < 4
-  low = issue-low c m p v (E .fits)
+  low = issue-low c m p (E .accepted)
 
   abbrev room : m .issued < 48
-  room = issue-room c m p v (E .fits)
+  room = issue-room c m p (E .accepted)
 
   abbrev at-place : (placeOf (placeBy (e .instr) (e .place)) ≡ placeAfter (e .instr) (e .place)) × ValidPlace (placeBy (e .instr) (e .place))
   at-place = place-by (e .instr) (e .place) (E .entry .fine) (E .entry .place)
@@ -208,11 +209,11 @@ module _ (c : Case) (m : Machine) (p place : ℕ) (names : List ℕ) (e : Entry)
       let whole : shownOne c (grown m p place names e rows) ≡ entered c m p (shownEntry c e) = λ i. record { count = n i; actions = u i; places = w i; names = h i; holders = shown c m .holders; order = j i } in
       whole ∙ ap (entered c m p) (E .new) ∙ entered-is c m p
 
-  pub grown-is : (shown c (grown m p place names e rows) ≡ issued c (shown c m) p) × Valid c (grown m p place names e rows)
+  pub grown-is : Showing c (issued c (shown c m) p) (grown m p place names e rows)
   unfolding afterStep
-  grown-is = (
-    after-shows c m (grown m p place names e rows) (issue p) (v .reached) (E .fits) grown-one,
-    record {
+  grown-is = record {
+    shows = after-shows c m (grown m p place names e rows) (issue p) (v .reached) (E .accepted .fits) grown-one;
+    valid = record {
       fit = v .fit;
       issued = omega (arith, room);
       acts-long = length-set (m .acts) (m .issued) e ∙ v .acts-long;
@@ -222,6 +223,6 @@ module _ (c : Case) (m : Machine) (p place : ℕ) (names : List ℕ) (e : Entry)
       rows-long = o .size;
       places = set-all ValidPlace (m .places) 0 4 p place (omega (arith, v .places-long, low)) (subst ValidPlace (sym hp) (at-place .1)) (λ q h n. v .places q h);
       entries = set-all (ValidEntry c) (m .acts) blankEntry (m .issued + 1) (m .issued) e (omega (arith, v .acts-long, room)) (E .entry) (λ q h n. v .entries q (omega arith));
-      reached = after-reached c m (grown m p place names e rows) (issue p) (v .reached) (E .fits) grown-one;
-    },
-  )
+      reached = after-reached c m (grown m p place names e rows) (issue p) (v .reached) (E .accepted .fits) grown-one;
+    };
+  }

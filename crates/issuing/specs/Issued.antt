@@ -14,13 +14,14 @@ use Rattle.rules.specs.Kinds.{kind, accesses, reads, assigns}
 use Rattle.rules.specs.Order.{joinedIf}
 use Rattle.rules.specs.State.{State, Action, start, given, valueOf, itemIs, standsAt}
 use Rattle.rules.specs.Issue.{renamed, newAction}
-use Rattle.rules.specs.Step.{issue, stepCode}
+use Rattle.rules.specs.Step.{issue}
 use Rattle.oneorder.specs.OneOrder.{hasItem}
 use Rattle.orders.specs.Rows.{orderOf}
 use Rattle.machine.specs.declared.Entry.{Entry}
 use Rattle.machine.specs.declared.Machine.{Machine}
 use Rattle.machine.specs.Shown.{namesOf, shown, shownEntry, Acts}
-use Rattle.machine.specs.Valid.{Valid, ValidEntry}
+use Rattle.machine.specs.Valid.{ValidEntry}
+use Rattle.machine.specs.Given.{Accepted}
 
 -- The register that an instruction assigns; 8 where it assigns none.
 abbrev pub assignedBy : Instr → ℕ
@@ -67,8 +68,7 @@ pub record Ordered (n : ℕ) (acts : List Entry) (p : ℕ) (e : Entry) (old new 
 
 -- e is the action of an issue of processor p that nothing refuses, with the names after it.
 pub record Entering (c : Case) (m : Machine) (p : ℕ) (e : Entry) (names : List ℕ) : Type 0 where
-  pub valid : Valid c m
-  pub fits : stepCode c (shown c m) (issue p) ≡ 0
+  pub accepted : Accepted c m (issue p)
   pub new : shownEntry c e ≡ newAction c (shown c m) p
   pub entry : ValidEntry c e
   pub names-long : length names ≡ 32

@@ -11,19 +11,19 @@ ghost use mathlib.Core.List.{[], _∷_};
 ghost use Prim.Native.Nat.{ℕ, _+_, _%_, _≤_, _<_};
 ghost use lib.Dec.{eqb, leb};
 ghost use lib.ListN.{length, getD};
-ghost use Rattle.words.specs.Small.{isNone, orZero, put};
+ghost use Rattle.words.specs.Small.{isNone, orZero};
 ghost use Rattle.words.specs.Refusals.{_when_, firstOf};
 ghost use Rattle.cases.specs.declared.Case.{Case as TheCase};
-ghost use Rattle.rules.specs.Kinds.{kind, accesses, reads, assigns};
-ghost use Rattle.rules.specs.State.{State, Action, given, valueOf, standsAt};
-ghost use Rattle.rules.specs.Issue.{renamed as renamedOf, issueRefusals, issued as issuedOf};
-ghost use Rattle.rules.specs.Step.{issue as issueStep, stepCode};
+ghost use Rattle.rules.specs.Kinds.{kind, accesses, reads};
+ghost use Rattle.rules.specs.State.{State, Action, valueOf, standsAt};
+ghost use Rattle.rules.specs.Issue.{issueRefusals, issued as issuedOf};
+ghost use Rattle.rules.specs.Step.{issue as issueStep};
 ghost use Rattle.oneorder.specs.OneOrder.{hasItem};
 ghost use Rattle.orders.specs.Rows.{SetOf};
 ghost use Rattle.machine.specs.Shown.{nameOf, namesOf, placeOf, shownValue, shownEntry, shown, Acts};
-ghost use Rattle.machine.specs.Fit.{Fine, Fit};
-ghost use Rattle.machine.specs.Valid.{Valid};
+ghost use Rattle.machine.specs.Given.{Accepted, Showing};
 ghost use Rattle.issuing.specs.Issued.{assignedBy, placeBy, fresh, after, Ordered, Entering};
+ghost use Rattle.issuing.specs.Given.{Joining, Binding, Asking, Renaming, Renamed};
 
 // Whether the entry has an item in the order.
 fn has_item(e: Entry) -> bool
@@ -77,7 +77,7 @@ fn earlier(acts: [Entry; 48], issued: usize, p: usize, writes: u64) -> u64
 
 // The item of a new entry e of processor p joins the order.
 fn join_order(rows: &mut [u64; 56], acts: [Entry; 48], issued: usize, p: usize, e: Entry)
-    requires { ⌜ (issued < 48) × (length acts ≡ 48) × (length (now rows) ≡ 56) × (e .loc < 8) ⌝ }
+    requires { ⌜ Joining issued acts (now rows) e ⌝ }
     ensures { λ _. ⌜ Ordered issued acts p e (now (rows .entry)) (now (rows .exit)) ⌝ }
 {
     if has_item(e) {
@@ -195,7 +195,7 @@ fn new_entry(
     place: u8,
     i: Instr,
 ) -> Entry
-    requires { ⌜ (issued ≤ 48) × (length acts ≡ 48) × (length (now names) ≡ 32) × (p < 4) × Fine i ⌝ }
+    requires { ⌜ Binding issued acts (now names) p i ⌝ }
     ensures { λ r. ⌜ ((s : State) → Acts c issued acts s → s .names ≡ namesOf c (now (names .entry)) → shownEntry c r ≡ fresh s p place i) ⌝ }
 {
     let a = words::wide(first_read(i));
@@ -240,7 +240,7 @@ pub fn issue_code<'a>(
     issued: usize,
     p: usize,
 ) -> u8
-    requires { ⌜ Fit c × (issued ≤ 48) × (length acts ≡ 48) × (length (now names) ≡ 32) × (p < 4) ⌝ }
+    requires { ⌜ Asking c issued acts (now names) p ⌝ }
     ensures { λ r. ⌜ ((s : State) → Acts c issued acts s → s .places p ≡ placeOf (getD (now (places .entry)) p 0) → s .names ≡ namesOf c (now (names .entry)) → r ≡ firstOf (issueRefusals c s p)) ⌝ }
 {
     let place = places[p];
@@ -262,8 +262,8 @@ pub fn issue_code<'a>(
 
 // The names once action k of processor p, of instruction i, has its register renamed.
 fn renamed(names: [u8; 32], p: usize, i: Instr, k: usize) -> [u8; 32]
-    requires { ⌜ (length names ≡ 32) × (p < 4) × (k < 48) × Fine i ⌝ }
-    ensures { λ r. ⌜ (length r ≡ 32) × ((c : TheCase) → namesOf c r ≡ put (namesOf c names) p (renamedOf (namesOf c names p) (assigns i) (given k))) ⌝ }
+    requires { ⌜ Renaming names p k i ⌝ }
+    ensures { λ r. ⌜ Renamed names p k i r ⌝ }
 {
     let d = words::wide(assigned(i));
     let mut n = names;
@@ -276,7 +276,7 @@ fn renamed(names: [u8; 32], p: usize, i: Instr, k: usize) -> [u8; 32]
 // Enters e, the action of an issue of processor p that nothing refuses; the names are those after it.
 fn enter(c: Case, m: Machine, p: usize, e: Entry, names: [u8; 32]) -> Machine
     requires { ⌜ Entering c m p e names ⌝ }
-    ensures { λ r. ⌜ (shown c r ≡ issuedOf c (shown c m) p) × Valid c r ⌝ }
+    ensures { λ r. ⌜ Showing c (issuedOf c (shown c m) p) r ⌝ }
 {
     let k = m.issued;
     let acts = m.acts;
@@ -293,8 +293,8 @@ fn enter(c: Case, m: Machine, p: usize, e: Entry, names: [u8; 32]) -> Machine
 
 // The machine after an issue of processor p that nothing refuses. The registers are bound before the one assigned is renamed.
 pub fn issue(c: Case, m: Machine, p: usize) -> Machine
-    requires { ⌜ Valid c m × (stepCode c (shown c m) (issueStep p) ≡ 0) ⌝ }
-    ensures { λ r. ⌜ (shown c r ≡ issuedOf c (shown c m) p) × Valid c r ⌝ }
+    requires { ⌜ Accepted c m (issueStep p) ⌝ }
+    ensures { λ r. ⌜ Showing c (issuedOf c (shown c m) p) r ⌝ }
 {
     let issued = m.issued;
     let acts = m.acts;

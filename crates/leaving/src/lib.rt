@@ -12,10 +12,11 @@ ghost use Rattle.rules.specs.State.{State};
 ghost use Rattle.sure.specs.Futile.{futile, queued, drains as isDrained, leaves};
 ghost use Rattle.machine.specs.Shown.{holderOf, shown, Acts};
 ghost use Rattle.machine.specs.Valid.{Valid};
+ghost use Rattle.leaving.specs.Given.{Counting, Testing};
 
 // Whether action k is a release that can never be committed.
 fn futile_at(c: Case, holders: &[u8; 8], acts: [Entry; 48], issued: usize, k: usize) -> bool
-    requires { ⌜ (issued ≤ 48) × (length acts ≡ 48) × (length (now holders) ≡ 8) × (k < issued) ⌝ }
+    requires { ⌜ Testing issued acts (now holders) k ⌝ }
     ensures { λ r. ⌜ ((s : State) → Acts c issued acts s → s .holders ≡ (λ l. holderOf (getD (now (holders .entry)) l 0)) → r ≡ true → futile s k ≡ true) ⌝ }
 {
     let e = acts[k];
@@ -63,7 +64,7 @@ fn one_unless(done: bool) -> usize
 
 // How many actions are in the queues.
 fn queue(acts: [Entry; 48], issued: usize) -> usize
-    requires { ⌜ (issued ≤ 48) × (length acts ≡ 48) ⌝ }
+    requires { ⌜ Counting issued acts ⌝ }
     ensures { λ r. ⌜ (r ≤ 48) × ((c : TheCase) (s : State) → Acts c issued acts s → r ≡ queued s) ⌝ }
 {
     let mut n: usize = 0;

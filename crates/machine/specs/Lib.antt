@@ -1,3 +1,4 @@
 pub mod Shown
 pub mod Fit
 pub mod Valid
+pub mod Given

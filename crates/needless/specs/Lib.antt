@@ -1,2 +1,3 @@
 pub mod Echoes
 pub mod Joins
+pub mod Given

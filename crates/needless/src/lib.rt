@@ -16,6 +16,7 @@ ghost use Rattle.orders.specs.Rows.{SetOf};
 ghost use Rattle.machine.specs.Shown.{nameOf, namesOf, shownEntry, Acts};
 ghost use Rattle.needless.specs.Echoes.{givesIn, isNovel, Unechoed};
 ghost use Rattle.needless.specs.Joins.{Joins};
+ghost use Rattle.needless.specs.Given.{Joining};
 
 // Whether item f is in both sets and a read takes v from it.
 fn gives(c: Case, acts: [Entry; 48], issued: usize, word: u64, done: u64, f: usize, v: u16) -> bool
@@ -152,7 +153,7 @@ fn awaited(acts: [Entry; 48], issued: usize, inner: u64, k: usize) -> bool
 
 // Whether action k, queued, may join a set of reads and locals that nothing outside it reads.
 fn may_join(names: &[u8; 32], acts: [Entry; 48], issued: usize, inner: u64, k: usize) -> bool
-    requires { ⌜ (issued ≤ 48) × (length acts ≡ 48) × (length (now names) ≡ 32) × (k < issued) ⌝ }
+    requires { ⌜ Joining issued acts (now names) k ⌝ }
     ensures { λ r. ⌜ ((c : TheCase) (s : State) → Acts c issued acts s → s .names ≡ namesOf c (now (names .entry)) → r ≡ true → Joins s inner k) ⌝ }
 {
     let e = acts[k];

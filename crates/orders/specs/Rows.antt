@@ -31,6 +31,12 @@ pub record JoinedTo (old new : List ℕ) (i mask b : ℕ) : Type 0 where
   pub low : (j : ℕ) → j < b → getD new j 0 ≡ joinedRow (getD old j 0) j i mask
   pub rest : (j : ℕ) → b ≤ j → getD new j 0 ≡ getD old j 0
 
+-- An item, a number of items, and the rows at their size.
+pub record Joining (rows : List ℕ) (i n : ℕ) : Type 0 where
+  pub item : i < 56
+  pub low : n ≤ 56
+  pub rows-long : length rows ≡ 56
+
 -- Item i is put after the items of a set, all below n.
 pub record Joined (old new : List ℕ) (i items n : ℕ) : Type 0 where
   pub size : length new ≡ 56

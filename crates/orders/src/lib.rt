@@ -5,7 +5,7 @@ ghost use Prim.Native.Nat.{ℕ, _+_, _≤_, _<_};
 ghost use lib.ListN.{length};
 ghost use Rattle.words.specs.Sets.{has as inSet};
 ghost use Rattle.rules.specs.Order.{upTo};
-ghost use Rattle.orders.specs.Rows.{orderOf, joinedRow, SetOf, Reaches, JoinedTo, Joined};
+ghost use Rattle.orders.specs.Rows.{orderOf, joinedRow, SetOf, Reaches, JoinedTo, Joining, Joined};
 
 // Whether item a stands before item b.
 pub fn before(rows: &[u64; 56], a: usize, b: usize) -> bool
@@ -94,7 +94,7 @@ fn reach(rows: &[u64; 56], items: u64, n: usize) -> u64
 
 // Puts item i after the items of a set, all below n, and closes the order.
 pub fn join(rows: &mut [u64; 56], i: usize, items: u64, n: usize)
-    requires { ⌜ (i < 56) × (n ≤ 56) × (length (now rows) ≡ 56) ⌝ }
+    requires { ⌜ Joining (now rows) i n ⌝ }
     ensures { λ _. ⌜ Joined (now (rows .entry)) (now (rows .exit)) i items n ⌝ }
 {
     let mask = reach(rows, items, n);

@@ -13,6 +13,7 @@ ghost use Rattle.machine.specs.Valid.{Valid};
 ghost use Rattle.committing.specs.Committed.{Entries};
 ghost use Rattle.races.specs.Test.{conflict as conflictOf, unordered as unorderedOf, races as racesOf, partner as partnerOf, opener as openerOf, firstOfRace, secondOfRace};
 ghost use Rattle.racing.specs.Answer.{queued as queuedOf, IsRace};
+ghost use Rattle.racing.specs.Given.{One, Two};
 
 // The code, the two actions, 255 where there is no race, the number of steps taken, the place of the instruction that the code names, else 255, and the
 // position that a block's code carries, 0 with any other.
@@ -57,7 +58,7 @@ fn unordered(rows: &[u64; 56], j: usize, k: usize) -> bool
 
 // Whether actions j and k race.
 fn races(acts: [Entry; 48], rows: &[u64; 56], issued: usize, j: usize, k: usize) -> bool
-    requires { ⌜ (issued ≤ 48) × (length acts ≡ 48) × (j < issued) × (k < issued) ⌝ }
+    requires { ⌜ Two issued acts j k ⌝ }
     ensures { λ r. ⌜ ((c : TheCase) (s : State) → Acts c issued acts s → s .orders ≡ ordersOf c (s .actions) (now (rows .entry)) → Entries c issued acts → r ≡ racesOf s j k) ⌝ }
 {
     let a = acts[j];
@@ -69,7 +70,7 @@ fn races(acts: [Entry; 48], rows: &[u64; 56], issued: usize, j: usize, k: usize)
 
 // The lowest action after j that races with it; the number of the issued actions where none does.
 fn partner(acts: [Entry; 48], rows: &[u64; 56], issued: usize, j: usize) -> usize
-    requires { ⌜ (issued ≤ 48) × (length acts ≡ 48) × (j < issued) ⌝ }
+    requires { ⌜ One issued acts j ⌝ }
     ensures { λ r. ⌜ ((c : TheCase) (s : State) → Acts c issued acts s → s .orders ≡ ordersOf c (s .actions) (now (rows .entry)) → Entries c issued acts → r ≡ partnerOf s j) ⌝ }
 {
     let mut k = j + 1;

@@ -29,3 +29,9 @@ pub record Ready (c : Case) (m : Machine) (n : ℕ) (ahead : Bool) (asked : Aske
   pub rested : Rested c (shown c m) (spentBy spent)
   pub room : y .full ≡ false
   pub held : Held bytes (y .count)
+
+-- A machine, clauses that can be asked, and a buffer with so many outcomes.
+pub record Finishing (c : Case) (m : Machine) (asked : Asked) (bytes : List ℕ) (count : ℕ) : Type 0 where
+  pub valid : Valid c m
+  pub asks : Askable asked
+  pub held : Held bytes count

@@ -6,15 +6,14 @@ ghost use mathlib.Core.Path.{_≡_};
 ghost use mathlib.Core.Bool.{true, false};
 ghost use Prim.Native.Nat.{ℕ, _≤_, _<_};
 ghost use lib.ListN.{length};
-ghost use Rattle.clauses.specs.Wanted.{wanted, Askable};
+ghost use Rattle.clauses.specs.Wanted.{wanted};
 ghost use Rattle.rules.specs.Result.{finished};
 ghost use Rattle.sure.specs.Spent.{Spent};
 ghost use Rattle.machine.specs.Shown.{shown};
 ghost use Rattle.machine.specs.Valid.{Valid};
-ghost use Rattle.records.specs.Buffer.{Held};
 ghost use Rattle.spending.specs.Words.{spentBy};
 ghost use Rattle.searching.specs.Positions.{Swept, Chosen};
-ghost use Rattle.searching.specs.Ready.{Ready};
+ghost use Rattle.searching.specs.Ready.{Ready, Finishing};
 ghost use Rattle.searching.specs.Searched.{Searched};
 
 // How many records the buffer holds, whether a run was cut, and whether there was no room.
@@ -64,7 +63,7 @@ fn choose(c: Case, m: Machine, spent: &[u64; 50], at: usize, to: usize, j: usize
 
 // A finished machine: its registers go in at their place, if they meet the clauses.
 fn finish(c: Case, m: Machine, asked: Asked, out: &mut [u8], tally: Tally) -> Tally
-    requires { ⌜ Valid c m × Askable asked × Held (now out) (tally .count) ⌝ }
+    requires { ⌜ Finishing c m asked (now out) (tally .count) ⌝ }
     ensures { λ r. ⌜ (finished c (shown c m) ≡ true → (sp : Spent) (n : ℕ) → Searched c (wanted asked) sp (shown c m) n (now (out .entry)) tally (now (out .exit)) r) ⌝ }
 {
     let registers = machine::registers(c, m);

@@ -1,2 +1,3 @@
 pub mod Words
 pub mod Spending
+pub mod Given

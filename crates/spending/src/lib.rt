@@ -9,13 +9,12 @@ ghost use lib.Dec.{eqb, ltb, leb};
 ghost use lib.ListN.{length};
 ghost use Rattle.words.specs.Sets.{has as inSet};
 ghost use Rattle.rules.specs.State.{State};
-ghost use Rattle.rules.specs.Step.{stepCode};
 ghost use Rattle.sure.specs.Spent.{stepBy, rivals as areRivals};
 ghost use Rattle.orders.specs.Rows.{SetOf};
 ghost use Rattle.machine.specs.Shown.{shownEntry, shown, Acts};
-ghost use Rattle.machine.specs.Valid.{Valid};
 ghost use Rattle.spending.specs.Words.{keyAt, spentBy};
 ghost use Rattle.spending.specs.Spending.{Noted, RestedBy, Cleared};
+ghost use Rattle.spending.specs.Given.{Noting, Resting};
 
 // The action that the step at position j commits.
 pub fn action_at(j: usize) -> usize
@@ -50,7 +49,7 @@ pub fn is_spent(spent: &[u64; 50], j: usize) -> bool
 
 // The step at position j is spent too.
 pub fn note(spent: [u64; 50], j: usize) -> [u64; 50]
-    requires { ⌜ (j < 3200) × (length spent ≡ 50) ⌝ }
+    requires { ⌜ Noting spent j ⌝ }
     ensures { λ r. ⌜ Noted spent j r ⌝ }
 {
     let w = j / 64;
@@ -141,7 +140,7 @@ fn still_spent(x: u64, issued: usize, p: usize) -> u64
 
 // What stays spent when the step at position j is taken.
 pub fn rest(c: Case, m: Machine, spent: [u64; 50], j: usize) -> [u64; 50]
-    requires { ⌜ Valid c m × (j < 3200) × (length spent ≡ 50) × (stepCode c (shown c m) (stepBy (shown c m) (keyAt j)) ≡ 0) ⌝ }
+    requires { ⌜ Resting c m spent j ⌝ }
     ensures { λ r. ⌜ RestedBy (shown c m) (stepBy (shown c m) (keyAt j)) spent r ⌝ }
 {
     let issued = m.issued;

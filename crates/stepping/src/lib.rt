@@ -6,7 +6,8 @@ ghost use Prim.Native.Nat.{_<_};
 ghost use Rattle.rules.specs.Step.{stepOf, stepCode, naming, stepPlace, after};
 ghost use Rattle.machine.specs.Shown.{shown};
 ghost use Rattle.machine.specs.Valid.{Valid};
-ghost use Rattle.stepping.specs.Taken.{Taken};
+ghost use Rattle.machine.specs.Given.{Accepted, Showing};
+ghost use Rattle.stepping.specs.Taken.{Coded, Taken};
 
 pub struct Stepped {
     pub code: u8,
@@ -51,7 +52,7 @@ fn names(code: u8) -> bool
 
 // The place that goes with the code of a step: of an issue the place counter, of a commit the action's; 255 where the code names none.
 fn place_of(c: Case, m: Machine, kind: u8, proc: u8, action: u8, source: u8, code: u8) -> u8
-    requires { ⌜ Valid c m × (code ≡ stepCode c (shown c m) (stepOf kind proc action source)) ⌝ }
+    requires { ⌜ Coded c m (stepOf kind proc action source) code ⌝ }
     ensures { λ r. ⌜ r ≡ stepPlace c (shown c m) (stepOf kind proc action source) ⌝ }
 {
     if names(code) {
@@ -66,8 +67,8 @@ fn place_of(c: Case, m: Machine, kind: u8, proc: u8, action: u8, source: u8, cod
 
 // The machine after a step that nothing refuses.
 fn taken(c: Case, m: Machine, kind: u8, proc: u8, action: u8, source: u8) -> Machine
-    requires { ⌜ Valid c m × (stepCode c (shown c m) (stepOf kind proc action source) ≡ 0) ⌝ }
-    ensures { λ r. ⌜ (shown c r ≡ after c (shown c m) (stepOf kind proc action source)) × Valid c r ⌝ }
+    requires { ⌜ Accepted c m (stepOf kind proc action source) ⌝ }
+    ensures { λ r. ⌜ Showing c (after c (shown c m) (stepOf kind proc action source)) r ⌝ }
 {
     let p = words::wide(proc);
     if kind == 0 {

@@ -112,7 +112,12 @@ settle-requires c κs =
     let at-read = at-code .before in
     let a = at-read .before .before .before .args in
     let long = sized (at-read .before .before .before) in
-    (read-fit (a .block .now) (at-read .read-case .ensures) (at-code .if1 .left), at-bound .if2 .left, can-ask (a .block .now) (at-read .read-case .ensures) (a .bound) (a .asked) (length (a .out .now)) (at-code .if1 .left) (at-bound .if2 .left) (sym (at-ask .unaskable .ensures) ∙ at-named .if3 .left) long, at-if .if4 .left)
+    record {
+      fit = read-fit (a .block .now) (at-read .read-case .ensures) (at-code .if1 .left);
+      few = at-bound .if2 .left;
+      asks = can-ask (a .block .now) (at-read .read-case .ensures) (a .bound) (a .asked) (length (a .out .now)) (at-code .if1 .left) (at-bound .if2 .left) (sym (at-ask .unaskable .ensures) ∙ at-named .if3 .left) long;
+      long = at-if .if4 .left;
+    }
 
 -- src/lib.rt:267:1
 same-length-5 : tie.Need-same-length-5

@@ -31,7 +31,7 @@ next-step-requires : tie.Need-next-step-requires Inv-loop μ-loop
 next-step-requires c κs =
     let in-loop = c .before in
     let start = in-loop .before .before in
-    (start .pre .standing .valid, omega (arith, in-loop .loop-test .taken), start .pre .upto, refl)
+    record { valid = start .pre .standing .valid; rising = omega (arith, in-loop .loop-test .taken); upto = start .pre .upto; long = refl }
 
 -- src/lib.rt:85:37
 take-requires : tie.Need-take-requires Inv-loop μ-loop
@@ -39,7 +39,11 @@ take-requires c κs =
     let at-next = c .before in
     let start = at-next .before .before .before .before in
     let a = start .args in
-    (start .pre .standing .valid, omega (arith, c .if1 .taken, start .pre .upto), opens-step (a .c) (shown (a .c) (a .m)) _ _ (at-next .next-step .ensures .found (c .if1 .taken) .0))
+    record {
+      valid = start .pre .standing .valid;
+      low = omega (arith, c .if1 .taken, start .pre .upto);
+      fits = opens-step (a .c) (shown (a .c) (a .m)) _ _ (at-next .next-step .ensures .found (c .if1 .taken) .0);
+    }
 
 -- src/lib.rt:85:61
 sub-within-reach : tie.Need-sub-within-reach Inv-loop μ-loop
@@ -61,7 +65,7 @@ returns c =
     let at-loop = at-next .before .before .before in
     let a = at-loop .before .args in
     first-here (a .c) (wanted (a .asked)) (shown (a .c) (a .m)) (a .n - 1) (at-loop .loop .inv) (at-next .next-step .result) (at-next .next-step .ensures) (at-reach .before .before .if1 .taken)
-    (held-after (shown (a .c) (a .m)) (stepAt (shown (a .c) (a .m)) (at-next .next-step .result)) (at-reach .before .take .ensures .0) (at-reach .within-reach .ensures) (c .if2 .taken))
+    (held-after (shown (a .c) (a .m)) (stepAt (shown (a .c) (a .m)) (at-next .next-step .result)) (at-reach .before .take .ensures .shows) (at-reach .within-reach .ensures) (c .if2 .taken))
 
 -- src/lib.rt:90:14
 add-at : tie.Need-add-at Inv-loop μ-loop
@@ -84,7 +88,7 @@ loop-again c =
     let at-loop = at-next .before .before .before in
     let a = at-loop .before .args in
     skipped-more (a .c) (wanted (a .asked)) (shown (a .c) (a .m)) (a .n - 1) (at-loop .loop .inv) (at-next .next-step .result) (at-next .next-step .ensures)
-    (⊎-elim (λ w l. vain-after (shown (a .c) (a .m)) (stepAt (shown (a .c) (a .m)) (at-next .next-step .result)) (w .1 .ensures .0) (w .2 .ensures) (w .3 .left)) (λ w l. absurd (omega (arith, w .left))) (c .if1 .came))
+    (⊎-elim (λ w l. vain-after (shown (a .c) (a .m)) (stepAt (shown (a .c) (a .m)) (at-next .next-step .result)) (w .1 .ensures .shows) (w .2 .ensures) (w .3 .left)) (λ w l. absurd (omega (arith, w .left))) (c .if1 .came))
 
 -- src/lib.rt:68:1
 returns-2 : tie.Need-returns-2 Inv-loop μ-loop

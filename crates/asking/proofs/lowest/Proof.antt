@@ -92,7 +92,7 @@ take-requires : tie.Need-take-requires Inv-loop μ-loop
 take-requires c κs =
     let at-step = c .before .before .before .before .before in
     let at-loop = at-step .before .before .before .before in
-    (at-loop .loop .inv .valid, at-step .lowest-step .ensures .small, at-step .lowest-step .ensures .fits)
+    record { valid = at-loop .loop .inv .valid; low = at-step .lowest-step .ensures .small; fits = at-step .lowest-step .ensures .fits }
 
 -- src/lib.rt:196:9
 sub-left : tie.Need-sub-left Inv-loop μ-loop

@@ -29,7 +29,7 @@ within-reach-requires : tie.Need-within-reach-requires
 within-reach-requires c κs =
     let at-forward = c .before in
     let start = at-forward .before .before .before .before .before .before in
-    standing-start (c .start .ensures) (at-forward .forward .ensures) (start .pre .1) (start .pre .2)
+    standing-start (c .start .ensures) (at-forward .forward .ensures) (start .pre .few) (start .pre .asks)
 
 -- src/lib.rt:215:19
 lowest-requires : tie.Need-lowest-requires
@@ -41,12 +41,12 @@ lowest-requires c κs =
     let at-clear = at-forward .before .before .before in
     let start = at-clear .before .before .before in
     record {
-      fit = start .pre .0;
+      fit = start .pre .fit;
       forwards = at-forward .forward .ensures;
-      few = start .pre .1;
-      asks = start .pre .2;
+      few = start .pre .few;
+      asks = start .pre .asks;
       held = start-held (at-start .start .ensures .0) (at-reach .within-reach .ensures) (at-if .if1 .taken);
-      clear = all-clear (start .args .out .now) (at-clear .clear .ensures) (start .pre .3);
+      clear = all-clear (start .args .out .now) (at-clear .clear .ensures) (start .pre .long);
     }
 
 -- src/lib.rt:212:9
@@ -73,7 +73,7 @@ returns-2 c =
     let at-start = at-reach .before in
     let at-clear = at-start .before .before .before .before in
     let start = at-clear .before .before .before in
-    (settled-no (at-start .start .ensures .0) (at-reach .within-reach .ensures) (c .if1 .left) (all-clear (start .args .out .now) (at-clear .clear .ensures) (start .pre .3)), refl)
+    (settled-no (at-start .start .ensures .0) (at-reach .within-reach .ensures) (c .if1 .left) (all-clear (start .args .out .now) (at-clear .clear .ensures) (start .pre .long)), refl)
 
 pub settle-spec : {M : Type 1} → statement M
 settle-spec =

@@ -27,10 +27,10 @@ loop-holds : tie.Need-loop-holds Inv-loop μ-loop
 loop-holds c = (search needs, λ s h. refl)
 
 element-copy-out-there : tie.Need-element-copy-out-there Inv-loop μ-loop
-element-copy-out-there c = let b = c .before .before .before in omega (arith, b .pre .0 .procs, b .pre .1, c .before .before .wide .ensures .0)
+element-copy-out-there c = let b = c .before .before .before in omega (arith, b .pre .fit .procs, b .pre .places-long, c .before .before .wide .ensures .0)
 
 element-copy-out-there-2 : tie.Need-element-copy-out-there-2 Inv-loop μ-loop
-element-copy-out-there-2 c = let b = c .before .before .before .before in omega (arith, b .pre .0 .procs, b .pre .0 .counts-long, c .before .before .before .wide .ensures .0)
+element-copy-out-there-2 c = let b = c .before .before .before .before in omega (arith, b .pre .fit .procs, b .pre .fit .counts-long, c .before .before .before .wide .ensures .0)
 
 add-p : tie.Need-add-p Inv-loop μ-loop
 add-p c = search needs
@@ -46,7 +46,7 @@ loop-again c =
     let p = at .loop .p in (
       search needs,
       λ s h. all-next (λ q. is (countOf (a .t1) q) (s .places q)) p (at .loop .all) _ (at .loop .inv .1 s h)
-          (at-count (countOf (a .t1) p) (getD (a .places .now) p 0) (b .pre .0 .counts p) ∙ ap (λ (f : ℕ → Option ℕ). is (countOf (a .t1) p) (f p)) (sym h)),
+          (at-count (countOf (a .t1) p) (getD (a .places .now) p 0) (b .pre .fit .counts p) ∙ ap (λ (f : ℕ → Option ℕ). is (countOf (a .t1) p) (f p)) (sym h)),
     )
 
 returns : tie.Need-returns Inv-loop μ-loop

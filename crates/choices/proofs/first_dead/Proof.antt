@@ -56,7 +56,7 @@ returns c =
     let l : k < a .issued = omega (arith, at .before .before .before .before .loop-test .taken) in
     λ s h n o z.
     let w = and-both _ (has (u .result) k) (sym (r .ensures (a .c)) ∙ at .before .if1 .taken) in
-    dead-at (a .c) s k (c .before .lowest .result) (omega (arith, b .pre .0)) (c .if2 .taken)
+    dead-at (a .c) s k (c .before .lowest .result) (omega (arith, b .pre .issued)) (c .if2 .taken)
     (sym (at .sources .ensures s h o (c .before .lowest .result)) ∙ c .before .lowest .ensures (c .if2 .taken))
     (record { reads = ap (λ (x : Action). reading (kindOf x)) (action-at (a .c) (a .issued) (a .t4) s h k l) ∙ w .0; set = has (u .result); ignored = u .ensures (a .c) s h n; among = w .1 })
 

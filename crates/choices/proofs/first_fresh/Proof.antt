@@ -16,7 +16,7 @@ abbrev μ-loop : tie.MeasureT-loop
 μ-loop word spent j end i₀ i = end - i
 
 returns : tie.Need-returns Inv-loop μ-loop
-returns c = let b = c .before in fresh-empty (b .args .word) (b .args .spent .now) (b .args .j) (b .args .end) (b .pre .0) (c .if1 .taken)
+returns c = let b = c .before in fresh-empty (b .args .word) (b .args .spent .now) (b .args .j) (b .args .end) (b .pre .from) (c .if1 .taken)
 
 loop-holds : tie.Need-loop-holds Inv-loop μ-loop
 loop-holds c = let a = c .before .args in (search needs, search needs, skip-none (a .word) (a .spent .now) (a .j))
@@ -56,7 +56,7 @@ returns-3 c =
     let b = c .before .before .before in
     let a = b .args in
     let q : c .before .loop .i ≡ a .end = omega arith in
-    fresh-none (a .word) (a .spent .now) (a .j) (a .end) (b .pre .0) (subst (Skipped (a .word) (a .spent .now) (a .j)) q (c .before .loop .inv .2))
+    fresh-none (a .word) (a .spent .now) (a .j) (a .end) (b .pre .from) (subst (Skipped (a .word) (a .spent .now) (a .j)) q (c .before .loop .inv .2))
 
 pub first-fresh-spec : {M : Type 1} → statement M
 first-fresh-spec =

@@ -17,7 +17,7 @@ settled-read-requires : tie.Need-settled-read-requires Inv-loop μ-loop
 settled-read-requires c κs = search needs
 
 returns : tie.Need-returns Inv-loop μ-loop
-returns c = (omega (arith, c .before .before .before .before .pre .0), λ s h o l. c .before .settled-read .ensures s h o (c .if1 .taken))
+returns c = (omega (arith, c .before .before .before .before .pre .issued), λ s h o l. c .before .settled-read .ensures s h o (c .if1 .taken))
 
 add-k : tie.Need-add-k Inv-loop μ-loop
 add-k c = search needs

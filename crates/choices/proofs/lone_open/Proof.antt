@@ -19,7 +19,7 @@ returns : tie.Need-returns
 returns c =
     let b = c .before .before .before in
     let a = b .args in
-    λ s h o g. lone-read (a .c) s (a .k) (c .before .kind-of .result) (c .before .kind-of .ensures .0 ∙ sym (ap kindOf (action-at (a .c) (a .issued) (a .t4) s h (a .k) (b .pre .3)))) (c .if1 .taken)
+    λ s h o g. lone-read (a .c) s (a .k) (c .before .kind-of .result) (c .before .kind-of .ensures .0 ∙ sym (ap kindOf (action-at (a .c) (a .issued) (a .t4) s h (a .k) (b .pre .there)))) (c .if1 .taken)
 
 may-commit-requires : tie.Need-may-commit-requires
 may-commit-requires c κs = search needs
@@ -28,7 +28,7 @@ returns-2 : tie.Need-returns-2
 returns-2 c =
     let b = c .before .before .before .before in
     let a = b .args in
-    λ s h o g. lone-other (a .c) s (a .k) (c .before .before .kind-of .result) (c .may-commit .result) (c .before .before .kind-of .ensures .0 ∙ sym (ap kindOf (action-at (a .c) (a .issued) (a .t4) s h (a .k) (b .pre .3)))) (c .before .if1 .left) (c .may-commit .ensures s h o g)
+    λ s h o g. lone-other (a .c) s (a .k) (c .before .before .kind-of .result) (c .may-commit .result) (c .before .before .kind-of .ensures .0 ∙ sym (ap kindOf (action-at (a .c) (a .issued) (a .t4) s h (a .k) (b .pre .there)))) (c .before .if1 .left) (c .may-commit .ensures s h o g)
 
 pub lone-open-spec : {M : Type 1} → statement M
 lone-open-spec =

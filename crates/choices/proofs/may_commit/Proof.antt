@@ -24,7 +24,7 @@ returns : tie.Need-returns
 returns c =
     let b = c .before .before .before .before in
     let a = b .args in
-    λ s h o g. absent-commit (a .c) s (a .k) 0 (c .before .before .wide .result) (c .before .before .wide .ensures .0 ∙ sym (ap (λ (x : Action). x .proc) (action-at (a .c) (a .issued) (a .t4) s h (a .k) (b .pre .3)))) (omega (arith, c .if1 .taken, c .before .wide2 .ensures .0))
+    λ s h o g. absent-commit (a .c) s (a .k) 0 (c .before .before .wide .result) (c .before .before .wide .ensures .0 ∙ sym (ap (λ (x : Action). x .proc) (action-at (a .c) (a .issued) (a .t4) s h (a .k) (b .pre .there)))) (omega (arith, c .if1 .taken, c .before .wide2 .ensures .0))
 
 commit-code-requires : tie.Need-commit-code-requires
 commit-code-requires c κs = search needs
@@ -33,7 +33,7 @@ returns-2 : tie.Need-returns-2
 returns-2 c =
     let b = c .before .before .before .before .before in
     let a = b .args in
-    λ s h o g. present-commit (a .c) s (a .k) 0 (c .before .before .before .wide .result) (c .commit-code .result) (c .before .before .before .wide .ensures .0 ∙ sym (ap (λ (x : Action). x .proc) (action-at (a .c) (a .issued) (a .t4) s h (a .k) (b .pre .3)))) (omega (arith, c .before .if1 .left, c .before .before .wide2 .ensures .0)) (c .commit-code .ensures s h o g)
+    λ s h o g. present-commit (a .c) s (a .k) 0 (c .before .before .before .wide .result) (c .commit-code .result) (c .before .before .before .wide .ensures .0 ∙ sym (ap (λ (x : Action). x .proc) (action-at (a .c) (a .issued) (a .t4) s h (a .k) (b .pre .there)))) (omega (arith, c .before .if1 .left, c .before .before .wide2 .ensures .0)) (c .commit-code .ensures s h o g)
 
 pub may-commit-spec : {M : Type 1} → statement M
 may-commit-spec =

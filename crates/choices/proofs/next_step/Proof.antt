@@ -37,7 +37,7 @@ returns c =
     let w = c .before .before .before .before .before .before .before .before .before .word-end in
     let u = c .before .before .unechoed in
     let j = at .loop .j in
-    next-found (a .c) s (a .spent .now) (a .at) (a .to) j (w .result) (c .before .before .before .open-word .result) (w .ensures .2) (omega (arith, w .ensures .1, b .pre .2)) (c .before .before .before .open-word .ensures) (u .result) (u .ensures s (record { count = refl; actions = refl })) (c .before .first-fresh .result) (at .loop .inv .0) (w .ensures .1) (c .before .first-fresh .ensures) (c .if1 .taken) (at .loop .inv .2)
+    next-found (a .c) s (a .spent .now) (a .at) (a .to) j (w .result) (c .before .before .before .open-word .result) (w .ensures .2) (omega (arith, w .ensures .1, b .pre .upto)) (c .before .before .before .open-word .ensures) (u .result) (u .ensures s (record { count = refl; actions = refl })) (c .before .first-fresh .result) (at .loop .inv .0) (w .ensures .1) (c .before .first-fresh .ensures) (c .if1 .taken) (at .loop .inv .2)
 
 loop-less : tie.Need-loop-less Inv-loop μ-loop
 loop-less c = search needs
@@ -53,7 +53,7 @@ loop-again c =
     let j = at .loop .j in (
       omega (arith, w .ensures .0, at .loop .inv .0),
       w .ensures .1,
-      pass-more (a .c) s (a .spent .now) (a .at) (a .to) j (w .result) (c .before .before .before .open-word .result) (w .ensures .2) (omega (arith, w .ensures .1, b .pre .2)) (c .before .before .before .open-word .ensures) (u .result) (u .ensures s (record { count = refl; actions = refl })) (c .before .first-fresh .result) (c .before .first-fresh .ensures) (c .if1 .left) (at .loop .inv .2),
+      pass-more (a .c) s (a .spent .now) (a .at) (a .to) j (w .result) (c .before .before .before .open-word .result) (w .ensures .2) (omega (arith, w .ensures .1, b .pre .upto)) (c .before .before .before .open-word .ensures) (u .result) (u .ensures s (record { count = refl; actions = refl })) (c .before .first-fresh .result) (c .before .first-fresh .ensures) (c .if1 .left) (at .loop .inv .2),
     )
 
 returns-2 : tie.Need-returns-2 Inv-loop μ-loop
@@ -61,7 +61,7 @@ returns-2 c =
     let b = c .before .before .before in
     let a = b .args in
     let q : c .before .loop .j ≡ a .to = omega (arith, c .before .loop .inv .1) in
-    next-none (a .c) (shown (a .c) (a .t2)) (a .spent .now) (a .at) (a .to) (c .before .loop .j) q (b .pre .1) (c .before .loop .inv .2)
+    next-none (a .c) (shown (a .c) (a .t2)) (a .spent .now) (a .at) (a .to) (c .before .loop .j) q (b .pre .rising) (c .before .loop .inv .2)
 
 pub next-step-spec : {M : Type 1} → statement M
 next-step-spec =

@@ -41,8 +41,8 @@ returns-4 c =
     let b = c .before .before .before in
     let a = b .args in
     let m = machineOf (a .issued) (a .places .now) (a .names .now) (a .holders .now) (a .acts) (a .rows .now) in
-    let q : 49 ≡ a .w = omega (arith, c .before .before .if1 .left, c .before .if3 .left, b .pre .1) in
-    λ e l. issue-set (a .c) (shown (a .c) m) (c .issues .result) (b .pre .0 .fit .procs) (c .issues .ensures (shown (a .c) m) (record { count = refl; actions = refl }) refl refl) e ∙ ap (λ (w : ℕ). opens (a .c) (shown (a .c) m) w e) q
+    let q : 49 ≡ a .w = omega (arith, c .before .before .if1 .left, c .before .if3 .left, b .pre .low) in
+    λ e l. issue-set (a .c) (shown (a .c) m) (c .issues .result) (b .pre .valid .fit .procs) (c .issues .ensures (shown (a .c) m) (record { count = refl; actions = refl }) refl refl) e ∙ ap (λ (w : ℕ). opens (a .c) (shown (a .c) m) w e) q
 
 pub open-word-spec : {M : Type 1} → statement M
 open-word-spec =

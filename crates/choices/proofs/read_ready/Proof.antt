@@ -26,7 +26,7 @@ returns : tie.Need-returns
 returns c =
     let b = c .before .before .before in
     let a = b .args in
-    λ s h. ready-shut (a .c) s (a .k) (c .before .read-queued .result) (c .before .read-queued .ensures (a .c) ∙ ap (queuedRead (a .c .procs)) (sym (action-at (a .c) (a .issued) (a .t2) s h (a .k) (b .pre .2)))) (c .if1 .taken)
+    λ s h. ready-shut (a .c) s (a .k) (c .before .read-queued .result) (c .before .read-queued .ensures (a .c) ∙ ap (queuedRead (a .c .procs)) (sym (action-at (a .c) (a .issued) (a .t2) s h (a .k) (b .pre .there)))) (c .if1 .taken)
 
 wide-requires : tie.Need-wide-requires
 wide-requires c κs = search needs
@@ -44,9 +44,9 @@ returns-2 c =
     let r = c .before .before .before .before .read-queued in
     let w = c .before .before .wide in
     λ s h.
-    let z = sym (action-at (a .c) (a .issued) (a .t2) s h (a .k) (b .pre .2)) in
+    let z = sym (action-at (a .c) (a .issued) (a .t2) s h (a .k) (b .pre .there)) in
     ready-is (a .c) s (a .k) (r .result) (r .ensures (a .c) ∙ ap (queuedRead (a .c .procs)) z) (c .before .held .result) (c .unready .result) (c .before .before .before .if1 .left)
-    (c .before .held .ensures (a .c) (a .issued) s h (omega (arith, b .pre .2)) ∙ ap (λ (p : ℕ). someBelow (a .k) (λ j. holding p 1 (getD (a .t2) (a .k) blankEntry .loc) (s .actions j))) (w .ensures .0) ∙ ap (λ (x : Action). someBelow (a .k) (λ j. holding (x .proc) 1 (x .loc) (s .actions j))) z)
+    (c .before .held .ensures (a .c) (a .issued) s h (omega (arith, b .pre .there)) ∙ ap (λ (p : ℕ). someBelow (a .k) (λ j. holding p 1 (getD (a .t2) (a .k) blankEntry .loc) (s .actions j))) (w .ensures .0) ∙ ap (λ (x : Action). someBelow (a .k) (λ j. holding (x .proc) 1 (x .loc) (s .actions j))) z)
     (c .unready .ensures s h ∙ ap (λ (x : Action). any (λ n. isNone (valueOf s n)) (x .inputs)) z)
 
 pub read-ready-spec : {M : Type 1} → statement M

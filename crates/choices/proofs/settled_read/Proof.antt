@@ -39,7 +39,7 @@ returns-2 c =
     let r = some-bit (v .result) (v .result) (omega arith) (c .before .before .before .if1 .left) in
     record {
       opened = (r .0, sym (v .ensures s h o (r .0)) ∙ r .1);
-      still = ap (λ (l : ℕ). someBelow (s .count) (λ j. pending l (s .actions j))) (ap (λ (x : Action). x .loc) (action-at (a .c) (a .issued) (a .t3) s h (a .k) (b .pre .2)) ∙ sym (c .before .wide .ensures .0)) ∙ sym (c .write-pending .ensures (a .c) s h) ∙ not-true (c .write-pending .result) t;
+      still = ap (λ (l : ℕ). someBelow (s .count) (λ j. pending l (s .actions j))) (ap (λ (x : Action). x .loc) (action-at (a .c) (a .issued) (a .t3) s h (a .k) (b .pre .there)) ∙ sym (c .before .wide .ensures .0)) ∙ sym (c .write-pending .ensures (a .c) s h) ∙ not-true (c .write-pending .result) t;
     }
 
 pub settled-read-spec : {M : Type 1} → statement M

@@ -39,7 +39,7 @@ returns c =
     let a = b .args in
     let k = at .loop .k in
     let q = c .before .before .before .kind-of in
-    λ s h o g. sure-here (a .c) s k _ (c .before .may-commit .result) (omega (arith, b .pre .0)) (sure-test (q .result) _ (q .ensures .0 ∙ sym (ap kindOf (action-at (a .c) (a .issued) (a .t4) s h k (omega arith))))) (c .before .before .if1 .taken) (c .before .may-commit .ensures s h o g) (c .if2 .taken)
+    λ s h o g. sure-here (a .c) s k _ (c .before .may-commit .result) (omega (arith, b .pre .issued)) (sure-test (q .result) _ (q .ensures .0 ∙ sym (ap kindOf (action-at (a .c) (a .issued) (a .t4) s h k (omega arith))))) (c .before .before .if1 .taken) (c .before .may-commit .ensures s h o g) (c .if2 .taken)
 
 add-k : tie.Need-add-k Inv-loop μ-loop
 add-k c = search needs

@@ -37,7 +37,7 @@ returns-2 c =
     let s = shown (a .c) (a .t2) in
     sure-issue (a .c) s (a .marked) (a .n) (u .sure-commit .result) (u .sure-commit .ensures s (record { count = refl; actions = refl }) refl refl) (c .before .issuer .result) (c .if3 .taken)
     (issue-accepts (a .c) s (c .before .issuer .result) (c .before .issuer .ensures s (record { count = refl; actions = refl }) refl refl (c .if3 .taken)))
-    (rw (sym (b .pre .1)) (c .before .before .before .before .before .if2 .taken))
+    (rw (sym (b .pre .forwards)) (c .before .before .before .before .before .if2 .taken))
 
 first-dead-requires : tie.Need-first-dead-requires
 first-dead-requires c κs = search needs

@@ -34,7 +34,7 @@ mul-s-2 : tie.Need-mul-s-2 Inv-loop μ-loop
 mul-s-2 c = search needs
 
 element-copy-out-s : tie.Need-element-copy-out-s Inv-loop μ-loop
-element-copy-out-s c = let b = c .before .before .before .before in omega (arith, b .pre .0 .counts (b .args .p), b .pre .1, c .before .before .wide .ensures .0)
+element-copy-out-s c = let b = c .before .before .before .before in omega (arith, b .pre .fit .counts (b .args .p), b .pre .proc, c .before .before .wide .ensures .0)
 
 leads-back-requires : tie.Need-leads-back-requires Inv-loop μ-loop
 leads-back-requires c κs = search needs

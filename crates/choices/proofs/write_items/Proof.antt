@@ -26,7 +26,7 @@ one-requires c κs = search needs
 loop-holds : tie.Need-loop-holds Inv-loop μ-loop
 loop-holds c =
     let a = c .before .args in
-    (search needs, λ k s h. subst (SetOf 8 (writes s (a .l))) (sym (c .one .ensures)) (first-item (writeTo (a .l)) s (a .l) (c .before .pre .2)))
+    (search needs, λ k s h. subst (SetOf 8 (writes s (a .l))) (sym (c .one .ensures)) (first-item (writeTo (a .l)) s (a .l) (c .before .pre .loc)))
 
 mul-e : tie.Need-mul-e Inv-loop μ-loop
 mul-e c = search needs

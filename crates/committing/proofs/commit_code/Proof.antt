@@ -29,7 +29,14 @@ returns-2 c =
 rest-code-requires : tie.Need-rest-code-requires
 rest-code-requires c κs =
     let b = c .before .before .before .before in
-    (b .pre .0, b .pre .1, b .pre .2, b .pre .3, c .before .before .before .if1 .left, b .pre .4 (b .args .k) (c .before .before .before .if1 .left))
+    record {
+      issued = b .pre .issued;
+      acts-long = b .pre .acts-long;
+      holders-long = b .pre .holders-long;
+      proc = b .pre .proc;
+      there = c .before .before .before .if1 .left;
+      entry = b .pre .entries (b .args .k) (c .before .before .before .if1 .left);
+    }
 
 returns-3 : tie.Need-returns-3
 returns-3 c =

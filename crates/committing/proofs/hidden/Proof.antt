@@ -33,7 +33,7 @@ loop-holds : tie.Need-loop-holds Inv-loop μ-loop
 loop-holds c =
     let a = c .before .before .args in
     let R = orderOf (a .rows .now) in
-    (search needs, λ k s h. rw (c .before .before2 .ensures, c .before3 .ensures) (first-passes (λ x. writing (kindOf x) && eqb (x .loc) (a .l)) s (a .l) (c .before .before .pre .2) (λ v. R (a .w) v && R v (a .i))))
+    (search needs, λ k s h. rw (c .before .before2 .ensures, c .before3 .ensures) (first-passes (λ x. writing (kindOf x) && eqb (x .loc) (a .l)) s (a .l) (c .before .before .pre .loc) (λ v. R (a .w) v && R v (a .i))))
 
 mul-e : tie.Need-mul-e Inv-loop μ-loop
 mul-e c = search needs

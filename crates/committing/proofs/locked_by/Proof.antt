@@ -19,7 +19,7 @@ put-holder-requires c κs = search needs
 returns : tie.Need-returns
 returns c =
     let a = c .before .before .args in
-    let q : (a .p + 1) % 256 ≡ a .p + 1 = omega (arith, c .before .before .pre .0) in
+    let q : (a .p + 1) % 256 ≡ a .p + 1 = omega (arith, c .before .before .pre .proc) in
     rw (c .before .if1 .taken) (c .put-holder .ensures ∙ ap (set (a .h) (a .x)) q)
 
 put-holder-requires-2 : tie.Need-put-holder-requires-2

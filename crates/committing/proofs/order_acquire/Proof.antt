@@ -32,7 +32,7 @@ returns-2 : tie.Need-returns-2
 returns-2 c =
     let a = c .before .args in
     record {
-      size = c .before .pre .3;
+      size = c .before .pre .rows-long;
       joins = λ k s h. join-left (eqb (a .kind) 6) (orderOf (a .rows .now)) (a .item) (8 + a .issued) (releases s (a .x)) (ne-eqb (a .kind) 6 (c .if1 .left));
     }
 

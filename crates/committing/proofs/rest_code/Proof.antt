@@ -36,7 +36,7 @@ returns-2 c =
     let q = c .before .before .before .kind-of .ensures .0 in
     λ s h o y l. rest-28 _ _ _ _ _ _
     (ap (λ (n : ℕ). not (eqb (a .src) 0) && not (eqb n 1)) (sym q) ∙ c .before .before .if1 .left)
-    (ap (λ (n : ℕ). someBelow (a .k) (λ j. holding (a .p) n (a .e .loc) (s .actions j))) (sym q) ∙ sym (c .before .held .ensures (a .c) (a .issued) s h (omega (arith, c .before .before .before .before .pre .4))) ∙ c .if2 .taken)
+    (ap (λ (n : ℕ). someBelow (a .k) (λ j. holding (a .p) n (a .e .loc) (s .actions j))) (sym q) ∙ sym (c .before .held .ensures (a .c) (a .issued) s h (omega (arith, c .before .before .before .before .pre .there))) ∙ c .if2 .taken)
 
 unready-requires : tie.Need-unready-requires
 unready-requires c κs = search needs
@@ -47,7 +47,7 @@ returns-3 c =
     let q = c .before .before .before .before .before .kind-of .ensures .0 in
     λ s h o y l. rest-29 _ _ _ _ _ _
     (ap (λ (n : ℕ). not (eqb (a .src) 0) && not (eqb n 1)) (sym q) ∙ c .before .before .before .before .if1 .left)
-    (ap (λ (n : ℕ). someBelow (a .k) (λ j. holding (a .p) n (a .e .loc) (s .actions j))) (sym q) ∙ sym (c .before .before .before .held .ensures (a .c) (a .issued) s h (omega (arith, c .before .before .before .before .before .before .pre .4))) ∙ c .before .before .if2 .left)
+    (ap (λ (n : ℕ). someBelow (a .k) (λ j. holding (a .p) n (a .e .loc) (s .actions j))) (sym q) ∙ sym (c .before .before .before .held .ensures (a .c) (a .issued) s h (omega (arith, c .before .before .before .before .before .before .pre .there))) ∙ c .before .before .if2 .left)
     (sym (c .before .unready .ensures s h) ∙ c .if3 .taken)
 
 input-requires : tie.Need-input-requires
@@ -68,7 +68,7 @@ returns-4 c =
     let w = c .before .wide .ensures .0 in
     rest-30 _ _ _ _ _ _
     (ap (λ (n : ℕ). not (eqb (a .src) 0) && not (eqb n 1)) (sym q) ∙ c .before .before .before .before .before .before .before .if1 .left)
-    (ap (λ (n : ℕ). someBelow (a .k) (λ j. holding (a .p) n (a .e .loc) (s .actions j))) (sym q) ∙ sym (c .before .before .before .before .before .before .held .ensures (a .c) (a .issued) s h (omega (arith, c .before .before .before .before .before .before .before .before .before .pre .4))) ∙ c .before .before .before .before .before .if2 .left)
+    (ap (λ (n : ℕ). someBelow (a .k) (λ j. holding (a .p) n (a .e .loc) (s .actions j))) (sym q) ∙ sym (c .before .before .before .before .before .before .held .ensures (a .c) (a .issued) s h (omega (arith, c .before .before .before .before .before .before .before .before .before .pre .there))) ∙ c .before .before .before .before .before .if2 .left)
     (sym (c .before .before .before .before .unready .ensures s h) ∙ c .before .before .before .if3 .left)
     (sym ((λ j. (eqb (q j) 6 || eqb (q j) 7) && leb (w j) (x j)) ∙ sync-test (a .c) s (a .e .first) (a .e .second) (leb (a .c .locs)) (a .e .instr)) ∙ c .if4 .taken)
 
@@ -88,7 +88,7 @@ returns-5 c =
     let g = c .before .before .holder-at .ensures ∙ ap (λ (n : ℕ). getD (a .holders .now) n 0) x in
     rest-31 _ _ _ _ _ _
     (ap (λ (n : ℕ). not (eqb (a .src) 0) && not (eqb n 1)) (sym q) ∙ c .before .before .before .before .before .before .before .before .before .before .if1 .left)
-    (ap (λ (n : ℕ). someBelow (a .k) (λ j. holding (a .p) n (a .e .loc) (s .actions j))) (sym q) ∙ sym (c .before .before .before .before .before .before .before .before .before .held .ensures (a .c) (a .issued) s h (omega (arith, c .before .before .before .before .before .before .before .before .before .before .before .before .pre .4))) ∙ c .before .before .before .before .before .before .before .before .if2 .left)
+    (ap (λ (n : ℕ). someBelow (a .k) (λ j. holding (a .p) n (a .e .loc) (s .actions j))) (sym q) ∙ sym (c .before .before .before .before .before .before .before .before .before .held .ensures (a .c) (a .issued) s h (omega (arith, c .before .before .before .before .before .before .before .before .before .before .before .before .pre .there))) ∙ c .before .before .before .before .before .before .before .before .if2 .left)
     (sym (c .before .before .before .before .before .before .before .unready .ensures s h) ∙ c .before .before .before .before .before .before .if3 .left)
     (sym ((λ j. (eqb (q j) 6 || eqb (q j) 7) && leb (w j) (x j)) ∙ sync-test (a .c) s (a .e .first) (a .e .second) (leb (a .c .locs)) (a .e .instr)) ∙ c .before .before .before .if4 .left)
     (sym (c .before .barred-by .ensures ∙ (λ j. barred (a .p) (q j) (holderOf (g j))) ∙ ap (λ (f : ℕ → Option ℕ). barred (a .p) (kind (a .e .instr)) (f (orZero (valueOf s (nameOf (a .c) (a .e .first)))))) (sym l) ∙ barred-input (a .c) s (a .e .first) (a .e .second) (a .p) (s .holders) (a .e .instr)) ∙ c .if5 .taken)
@@ -107,11 +107,11 @@ returns-6 c =
     let x = c .before .before .before .before .before .before .input .ensures s h in
     let w = c .before .before .before .before .before .wide .ensures .0 in
     let g = c .before .before .before .holder-at .ensures ∙ ap (λ (n : ℕ). getD (a .holders .now) n 0) x in
-    c .sight-code .ensures s h o (read-stands (a .c) s (a .e) (a .k) _ (c .before .before .before .before .before .before .before .before .before .before .before .before .before .pre .5) y q)
+    c .sight-code .ensures s h o (read-stands (a .c) s (a .e) (a .k) _ (c .before .before .before .before .before .before .before .before .before .before .before .before .before .pre .entry) y q)
     ∙ ap (λ (n : ℕ). firstOf (32 when (eqb n 1 && not (visible (a .c) s (a .e .loc) (8 + a .k) (a .src))) ∷ [])) q
     ∙ rest-32 _ _ _ _ _ _
     (ap (λ (n : ℕ). not (eqb (a .src) 0) && not (eqb n 1)) (sym q) ∙ c .before .before .before .before .before .before .before .before .before .before .before .if1 .left)
-    (ap (λ (n : ℕ). someBelow (a .k) (λ j. holding (a .p) n (a .e .loc) (s .actions j))) (sym q) ∙ sym (c .before .before .before .before .before .before .before .before .before .before .held .ensures (a .c) (a .issued) s h (omega (arith, c .before .before .before .before .before .before .before .before .before .before .before .before .before .pre .4))) ∙ c .before .before .before .before .before .before .before .before .before .if2 .left)
+    (ap (λ (n : ℕ). someBelow (a .k) (λ j. holding (a .p) n (a .e .loc) (s .actions j))) (sym q) ∙ sym (c .before .before .before .before .before .before .before .before .before .before .held .ensures (a .c) (a .issued) s h (omega (arith, c .before .before .before .before .before .before .before .before .before .before .before .before .before .pre .there))) ∙ c .before .before .before .before .before .before .before .before .before .if2 .left)
     (sym (c .before .before .before .before .before .before .before .before .unready .ensures s h) ∙ c .before .before .before .before .before .before .before .if3 .left)
     (sym ((λ j. (eqb (q j) 6 || eqb (q j) 7) && leb (w j) (x j)) ∙ sync-test (a .c) s (a .e .first) (a .e .second) (leb (a .c .locs)) (a .e .instr)) ∙ c .before .before .before .before .if4 .left)
     (sym (c .before .before .barred-by .ensures ∙ (λ j. barred (a .p) (q j) (holderOf (g j))) ∙ ap (λ (f : ℕ → Option ℕ). barred (a .p) (kind (a .e .instr)) (f (orZero (valueOf s (nameOf (a .c) (a .e .first)))))) (sym l) ∙ barred-input (a .c) s (a .e .first) (a .e .second) (a .p) (s .holders) (a .e .instr)) ∙ c .before .if5 .left)

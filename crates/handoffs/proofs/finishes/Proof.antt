@@ -19,7 +19,7 @@ slice-aggregate-settle c = search needs
 
 -- src/lib.rt:358:9
 settle-requires : tie.Need-settle-requires
-settle-requires c κs = let start = c .before .before in (start .pre .fit, start .pre .bound, none-askable (c .before .no-clauses .ensures), refl)
+settle-requires c κs = let start = c .before .before in record { fit = start .pre .fit; few = start .pre .bound; asks = none-askable (c .before .no-clauses .ensures); long = refl }
 
 -- src/lib.rt:353:1
 returns : tie.Need-returns

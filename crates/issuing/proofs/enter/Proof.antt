@@ -11,19 +11,24 @@ join-order-requires : tie.Need-join-order-requires
 join-order-requires c κs =
     let b = c .before .before .before in
     let E = b .pre in
-    (issue-room (b .args .c) (b .args .m) (b .args .p) (E .valid) (E .fits), E .valid .acts-long, E .valid .rows-long, E .entry .loc)
+    record {
+      room = issue-room (b .args .c) (b .args .m) (b .args .p) (E .accepted);
+      acts-long = E .accepted .valid .acts-long;
+      rows-long = E .accepted .valid .rows-long;
+      loc = E .entry .loc;
+    }
 
 mul-e : tie.Need-mul-e
-mul-e c = let b = c .before .before .before .before in omega (arith, issue-room (b .args .c) (b .args .m) (b .args .p) (b .pre .valid) (b .pre .fits))
+mul-e c = let b = c .before .before .before .before in omega (arith, issue-room (b .args .c) (b .args .m) (b .args .p) (b .pre .accepted))
 
 element-set-from-e : tie.Need-element-set-from-e
-element-set-from-e c = let b = c .before .before .before .before in omega (arith, issue-room (b .args .c) (b .args .m) (b .args .p) (b .pre .valid) (b .pre .fits))
+element-set-from-e c = let b = c .before .before .before .before in omega (arith, issue-room (b .args .c) (b .args .m) (b .args .p) (b .pre .accepted))
 
 add-n : tie.Need-add-n
-add-n c = let b = c .before .before .before .before in omega (arith, issue-room (b .args .c) (b .args .m) (b .args .p) (b .pre .valid) (b .pre .fits))
+add-n c = let b = c .before .before .before .before in omega (arith, issue-room (b .args .c) (b .args .m) (b .args .p) (b .pre .accepted))
 
 element-write-n : tie.Need-element-write-n
-element-write-n c = let b = c .before .before .before .before in issue-low (b .args .c) (b .args .m) (b .args .p) (b .pre .valid) (b .pre .fits)
+element-write-n c = let b = c .before .before .before .before in issue-low (b .args .c) (b .args .m) (b .args .p) (b .pre .accepted)
 
 returns : tie.Need-returns
 returns c =

@@ -17,58 +17,67 @@ use Rattle.issuing.proofs.issue.Statement.{statement}
 use Rattle.issuing.proofs.issue.Tie as tie
 
 element-copy-out-place : tie.Need-element-copy-out-place
-element-copy-out-place c = let b = c .before in issue-low (b .args .t1) (b .args .t2) (b .args .p) (b .pre .0) (b .pre .1)
+element-copy-out-place c = let b = c .before in issue-low (b .args .t1) (b .args .t2) (b .args .p) (b .pre)
 
 mul-s : tie.Need-mul-s
-mul-s c = let b = c .before .before in let q = issue-low (b .args .t1) (b .args .t2) (b .args .p) (b .pre .0) (b .pre .1) in search needs
+mul-s c = let b = c .before .before in let q = issue-low (b .args .t1) (b .args .t2) (b .args .p) (b .pre) in search needs
 
 wide-requires : tie.Need-wide-requires
 wide-requires c κs = search needs
 
 add-s : tie.Need-add-s
-add-s c = let b = c .before .before .before in let q = issue-low (b .args .t1) (b .args .t2) (b .args .p) (b .pre .0) (b .pre .1) in search needs
+add-s c = let b = c .before .before .before in let q = issue-low (b .args .t1) (b .args .t2) (b .args .p) (b .pre) in search needs
 
 mul-s-2 : tie.Need-mul-s-2
 mul-s-2 c =
     let b = c .before .before .before in
-    let q = issue-low (b .args .t1) (b .args .t2) (b .args .p) (b .pre .0) (b .pre .1) in
-    let i = issue-inside (b .args .t1) (b .args .t2) (b .args .p) (b .pre .0) (b .pre .1) in
+    let q = issue-low (b .args .t1) (b .args .t2) (b .args .p) (b .pre) in
+    let i = issue-inside (b .args .t1) (b .args .t2) (b .args .p) (b .pre) in
     search needs
 
 element-copy-out-s : tie.Need-element-copy-out-s
 element-copy-out-s c =
     let b = c .before .before .before in
-    omega (arith, issue-low (b .args .t1) (b .args .t2) (b .args .p) (b .pre .0) (b .pre .1), issue-inside (b .args .t1) (b .args .t2) (b .args .p) (b .pre .0) (b .pre .1), b .pre .0 .fit .counts (b .args .p), c .wide .ensures .0)
+    omega (arith, issue-low (b .args .t1) (b .args .t2) (b .args .p) (b .pre), issue-inside (b .args .t1) (b .args .t2) (b .args .p) (b .pre), b .pre .valid .fit .counts (b .args .p), c .wide .ensures .0)
 
 renamed-requires : tie.Need-renamed-requires
 renamed-requires c κs =
     let b = c .before .before .before .before .before in
     let a = b .args in
-    let v = b .pre .0 in
-    (v .names-long, issue-low (a .t1) (a .t2) (a .p) v (b .pre .1), issue-room (a .t1) (a .t2) (a .p) v (b .pre .1), subst (λ (n : ℕ). Fine (instrAt (a .t1) (a .p) n)) (sym (c .before .before .wide .ensures .0)) (issue-fine (a .t1) (a .t2) (a .p) v (b .pre .1)))
+    let v = b .pre .valid in
+    record {
+      names-long = v .names-long;
+      proc = issue-low (a .t1) (a .t2) (a .p) (b .pre);
+      action = issue-room (a .t1) (a .t2) (a .p) (b .pre);
+      fine = subst (λ (n : ℕ). Fine (instrAt (a .t1) (a .p) n)) (sym (c .before .before .wide .ensures .0)) (issue-fine (a .t1) (a .t2) (a .p) (b .pre));
+    }
 
 new-entry-requires : tie.Need-new-entry-requires
 new-entry-requires c κs =
     let b = c .before .before .before .before .before .before .before in
     let a = b .args in
-    let v = b .pre .0 in
-    (v .issued, v .acts-long, search needs, issue-low (a .t1) (a .t2) (a .p) v (b .pre .1), subst (λ (n : ℕ). Fine (instrAt (a .t1) (a .p) n)) (sym (c .before .before .before .before .wide .ensures .0)) (issue-fine (a .t1) (a .t2) (a .p) v (b .pre .1)))
+    let v = b .pre .valid in
+    record {
+      issued = v .issued;
+      acts-long = v .acts-long;
+      names-long = search needs;
+      proc = issue-low (a .t1) (a .t2) (a .p) (b .pre);
+      fine = subst (λ (n : ℕ). Fine (instrAt (a .t1) (a .p) n)) (sym (c .before .before .before .before .wide .ensures .0)) (issue-fine (a .t1) (a .t2) (a .p) (b .pre));
+    }
 
 enter-requires : tie.Need-enter-requires
 enter-requires c κs =
     let b = c .before .before .before .before .before .before .before .before in
     let a = b .args in
-    let v = b .pre .0 in
     let w = c .before .before .before .before .before .wide .ensures .0 in
     let h = subst (λ (n : ℕ). shownEntry (a .t1) (c .new-entry .result) ≡ fresh (shown (a .t1) (a .t2)) (a .p) (getD (a .t2 .places) (a .p) 0) (instrAt (a .t1) (a .p) n)) w (c .new-entry .ensures (shown (a .t1) (a .t2)) (record { count = refl; actions = refl }) refl) in
     let n = ap (λ (i : Instr). put (namesOf (a .t1) (a .t2 .names)) (a .p) (renamedOf (namesOf (a .t1) (a .t2 .names) (a .p)) (assigns i) (given (a .t2 .issued)))) (ap (instrAt (a .t1) (a .p)) w ∙ sym (ap (λ (x : Action). x .instr) h)) in
     record {
-      valid = v;
-      fits = b .pre .1;
-      new = issue-new (a .t1) (a .t2) (a .p) v (b .pre .1) (c .new-entry .result) h;
-      entry = issue-entry (a .t1) (a .t2) (a .p) v (b .pre .1) (c .new-entry .result) h;
-      names-long = c .before .before .renamed .ensures .0;
-      renames = c .before .before .renamed .ensures .1 (a .t1) ∙ n;
+      accepted = b .pre;
+      new = issue-new (a .t1) (a .t2) (a .p) (b .pre) (c .new-entry .result) h;
+      entry = issue-entry (a .t1) (a .t2) (a .p) (b .pre) (c .new-entry .result) h;
+      names-long = c .before .before .renamed .ensures .long;
+      renames = c .before .before .renamed .ensures .shows (a .t1) ∙ n;
     }
 
 returns : tie.Need-returns

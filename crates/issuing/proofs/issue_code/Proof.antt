@@ -40,7 +40,7 @@ mul-s-2 : tie.Need-mul-s-2
 mul-s-2 c = search needs
 
 element-copy-out-s : tie.Need-element-copy-out-s
-element-copy-out-s c = let b = c .before .before .before .before .before .before in omega (arith, c .before .before .if2 .left, b .pre .0 .counts (b .args .p), b .pre .4, c .wide .ensures .0)
+element-copy-out-s c = let b = c .before .before .before .before .before .before in omega (arith, c .before .before .if2 .left, b .pre .fit .counts (b .args .p), b .pre .proc, c .wide .ensures .0)
 
 first-read-requires : tie.Need-first-read-requires
 first-read-requires c κs = search needs
@@ -75,7 +75,7 @@ returns-4 c =
     λ s h q n.
     c .address-code .ensures
     ∙ ap (λ (x : ℕ). firstOf (addressRefusals (a .t1) (accesses (kind (instrAt (a .t1) (a .p) x))) (shownValue (c .before .named .result)))) w
-    ∙ code-rest (a .t1) s (a .p) at q (c .before .before .before .before .before .before .before .before .before .before .if1 .left) (a .names .now) (shownValue (c .before .named .result)) (b .pre .4) n (b .pre .0 .fine (a .p) at (b .pre .4) (c .before .before .before .before .before .before .before .before .if2 .left)) (c .before .before .before .before .before .before .before .before .if2 .left) (omega (arith, h .count, c .before .before .before .before .before .before .before .if3 .left))
+    ∙ code-rest (a .t1) s (a .p) at q (c .before .before .before .before .before .before .before .before .before .before .if1 .left) (a .names .now) (shownValue (c .before .named .result)) (b .pre .proc) n (b .pre .fit .fine (a .p) at (b .pre .proc) (c .before .before .before .before .before .before .before .before .if2 .left)) (c .before .before .before .before .before .before .before .before .if2 .left) (omega (arith, h .count, c .before .before .before .before .before .before .before .if3 .left))
     (c .before .named .ensures s h ∙ ap (λ (x : ℕ). valueOf s (nameOf (a .t1) x)) nm)
 
 pub issue-code-spec : {M : Type 1} → statement M

@@ -43,7 +43,7 @@ returns-2 c =
     let b = c .before in
     let a = b .before .args in
     record {
-      size = b .before .pre .2;
+      size = b .before .pre .rows-long;
       joins = λ k s h. join-left (hasItem (shownEntry k (a .e))) (orderOf (a .rows .now)) (8 + a .issued) (8 + a .issued) (after (a .p) (shownEntry k (a .e)) s) (sym (b .has-item .ensures k) ∙ c .if1 .left);
     }
 

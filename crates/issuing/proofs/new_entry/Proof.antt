@@ -48,10 +48,10 @@ returns : tie.Need-returns
 returns c =
     let b = c .before .before .before .before .before .before .before in
     let a = b .args in
-    let low = b .pre .3 in
+    let low = b .pre .proc in
     let u : c .before .before .before .before .before .wide .result ≡ getD (readsOf (a .i)) 0 0 = c .before .before .before .before .before .wide .ensures .0 ∙ c .before .before .before .before .before .before .first-read .ensures in
     let w : c .before .before .before .wide2 .result ≡ getD (readsOf (a .i)) 1 0 = c .before .before .before .wide2 .ensures .0 ∙ c .before .before .before .before .second-read .ensures in
-    λ s h n. entry-fresh (a .c) s (a .p) (a .names .now) low n (a .i) (a .place) _ _ _ _ (b .pre .4) (omega (arith, low))
+    λ s h n. entry-fresh (a .c) s (a .p) (a .names .now) low n (a .i) (a .place) _ _ _ _ (b .pre .fine) (omega (arith, low))
     (c .before .before .name-at .ensures ∙ ap (λ (n : ℕ). getD (a .names .now) (8 * a .p + n) 0) u)
     (c .before .name-at2 .ensures ∙ ap (λ (n : ℕ). getD (a .names .now) (8 * a .p + n) 0) w)
     (c .location .ensures s h)

@@ -33,14 +33,17 @@ returns c =
     let b = c .before .before .before in
     let a = b .args in
     let d : c .before .wide .result ≡ assignedBy (a .i) = c .before .wide .ensures .0 ∙ c .before .before .assigned .ensures in
-    (length-set (a .names) _ _ ∙ b .pre .0, λ k. names-some k (a .names) (a .p) (a .k) _ _ (a .i) (b .pre .0) (b .pre .1) (b .pre .3) d (c .if1 .taken) (omega (arith, b .pre .2)))
+    record {
+      long = length-set (a .names) _ _ ∙ b .pre .names-long;
+      shows = λ k. names-some k (a .names) (a .p) (a .k) _ _ (a .i) (b .pre .names-long) (b .pre .proc) (b .pre .fine) d (c .if1 .taken) (omega (arith, b .pre .action));
+    }
 
 returns-2 : tie.Need-returns-2
 returns-2 c =
     let b = c .before .before .before in
     let a = b .args in
     let d : c .before .wide .result ≡ assignedBy (a .i) = c .before .wide .ensures .0 ∙ c .before .before .assigned .ensures in
-    (b .pre .0, λ k. names-none k (a .names) (a .p) (a .k) _ (a .i) (b .pre .3) d (c .if1 .left))
+    record { long = b .pre .names-long; shows = λ k. names-none k (a .names) (a .p) (a .k) _ (a .i) (b .pre .fine) d (c .if1 .left) }
 
 pub renamed-spec : {M : Type 1} → statement M
 renamed-spec =

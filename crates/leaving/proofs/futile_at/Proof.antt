@@ -67,8 +67,8 @@ returns-2 c =
     λ s h o t.
     let g = at-holder .holder-at .ensures ∙ ap (λ (n : ℕ). getD (a .holders .now) n 0) (at-input .input .ensures s h) in
     let bars = at-barred .barred-by .ensures ∙ (λ j. barred (w j) (q j) (holderOf (g j))) ∙ ap (λ (f : ℕ → Option ℕ). barred (e .proc) (kind (e .instr)) (f (orZero (valueOf s (nameOf (a .c) (e .first)))))) (sym o) ∙ barred-input (a .c) s (e .first) (e .second) (e .proc) (s .holders) (e .instr) in
-    let behind = at-held .held .ensures (a .c) (a .issued) s h (omega (arith, start .pre .3)) ∙ ap (λ (p : ℕ). someBelow (a .k) (λ j. holding p 2 0 (s .actions j))) w in
-    sym (futile-test (a .c) s (a .k) e (action-at (a .c) (a .issued) (a .t3) s h (a .k) (start .pre .3)) (at-kind .kind-of .result) q (at-unready .unready .result) (at-barred .barred-by .result) (at-held .held .result) (at-unready .unready .ensures s h) bars behind) ∙ t
+    let behind = at-held .held .ensures (a .c) (a .issued) s h (omega (arith, start .pre .there)) ∙ ap (λ (p : ℕ). someBelow (a .k) (λ j. holding p 2 0 (s .actions j))) w in
+    sym (futile-test (a .c) s (a .k) e (action-at (a .c) (a .issued) (a .t3) s h (a .k) (start .pre .there)) (at-kind .kind-of .result) q (at-unready .unready .result) (at-barred .barred-by .result) (at-held .held .result) (at-unready .unready .ensures s h) bars behind) ∙ t
 
 pub futile-at-spec : {M : Type 1} → statement M
 futile-at-spec =

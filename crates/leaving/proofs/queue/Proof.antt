@@ -54,7 +54,7 @@ returns : tie.Need-returns Inv-loop μ-loop
 returns c =
     let a = c .before .before .args in
     let q : c .before .loop .k ≡ a .issued = omega arith in
-    (omega (arith, c .before .loop .inv .1, c .before .before .pre .0), λ k s h. subst (λ (x : ℕ). c .before .loop .n ≡ howMany x (λ j. isNone (s .actions j .result))) (q ∙ sym (h .count)) (c .before .loop .inv .2 k s h))
+    (omega (arith, c .before .loop .inv .1, c .before .before .pre .issued), λ k s h. subst (λ (x : ℕ). c .before .loop .n ≡ howMany x (λ j. isNone (s .actions j .result))) (q ∙ sym (h .count)) (c .before .loop .inv .2 k s h))
 
 pub queue-spec : {M : Type 1} → statement M
 queue-spec =

@@ -41,7 +41,7 @@ returns-4 c =
     let b = at .before .before .before .before .before in
     let a = b .args in
     λ k s h n t.
-    let z = action-at k (a .issued) (a .t2) s h (a .k) (b .pre .3) in
+    let z = action-at k (a .issued) (a .t2) s h (a .k) (b .pre .there) in
     record {
       kinds = kinds-test (q .result) (kindOf (s .actions (a .k))) (q .ensures .0 ∙ sym (ap kindOf z)) (at .before .if2 .left);
       renamed = ap (λ (x : Action). holdsOn s (a .k) (assigns (x .instr))) z ∙ sym (at .holds-on .ensures k s n z) ∙ c .before .if3 .left;

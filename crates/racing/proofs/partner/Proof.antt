@@ -20,7 +20,7 @@ add-k : tie.Need-add-k Inv-loop μ-loop
 add-k c = search needs
 
 loop-holds : tie.Need-loop-holds Inv-loop μ-loop
-loop-holds c = (omega (arith, c .pre .2), omega arith, λ k s h o e. unmet-start s (c .args .j))
+loop-holds c = (omega (arith, c .pre .there), omega arith, λ k s h o e. unmet-start s (c .args .j))
 
 races-requires : tie.Need-races-requires Inv-loop μ-loop
 races-requires c κs = search needs

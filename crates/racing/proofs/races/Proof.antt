@@ -22,13 +22,13 @@ conflict-requires c κs = search needs
 unordered-requires : tie.Need-unordered-requires
 unordered-requires c κs =
     let b = c .before .before .before in
-    (omega (arith, b .pre .0, b .pre .2), omega (arith, b .pre .0, b .pre .3))
+    (omega (arith, b .pre .issued, b .pre .first), omega (arith, b .pre .issued, b .pre .second))
 
 returns : tie.Need-returns
 returns c =
     let b = c .before .before .before .before in
     let a = b .args in
-    λ k s h o e. races-is k (a .issued) (a .t1) s h (a .rows .now) o e (a .j) (a .k) (b .pre .2) (b .pre .3) (c .before .conflict .result) (c .unordered .result) (c .before .conflict .ensures k) (c .unordered .ensures)
+    λ k s h o e. races-is k (a .issued) (a .t1) s h (a .rows .now) o e (a .j) (a .k) (b .pre .first) (b .pre .second) (c .before .conflict .result) (c .unordered .result) (c .before .conflict .ensures k) (c .unordered .ensures)
 
 pub races-spec : {M : Type 1} → statement M
 races-spec =

@@ -128,7 +128,7 @@ locked-by-requires c κs =
     let s = c .before .before .before .before .before .before .before .before .before .before .before .before .before in
     let a = s .args in
     let low = proc-low (a .k) (a .t1) (a .t3) (a .p) (s .pre) in
-    (low, s .pre .valid .holders-long)
+    record { proc = low; holders-long = s .pre .valid .holders-long }
 
 -- src/lib.rt:376:9
 assign-requires : tie.Need-assign-requires

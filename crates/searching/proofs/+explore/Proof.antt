@@ -29,6 +29,13 @@ use Rattle.machine.proofs.finished.Reads as finished-reads
 use Rattle.searching.proofs.+explore.{statement}
 use Rattle.searching.proofs.+explore.Tie.{close}
 
+-- a function of a cycle is given its measure, and what it requires
+abbrev measured : {A B : Type 0} → A × B → A
+measured p = p .0
+
+abbrev given : {A B : Type 0} → A × B → B
+given p = p .1
+
 abbrev μ-explore : Measures 1 explore-kinds.ps ℕ
 μ-explore κs a = a .1 .1 .0
 
@@ -74,12 +81,12 @@ abbrev μ : explore-lts.MeasureT-loop
 μ c m n ahead asked out₀ done j to at₀ now₀ sum₀ out at now sum = to - at
 
 finished-requires : (t : ℕ) → explore-lts.Need-finished-requires (claims t) (at t) explore.Post Inv μ
-finished-requires t c κs = c .before .pre .1 .valid
+finished-requires t c κs = given (c .before .pre) .valid
 
 finish-requires : (t : ℕ) → explore-lts.Need-finish-requires (claims t) (at t) explore.Post Inv μ
 finish-requires t c κs =
     let start = c .before .before .before .before in
-    (start .pre .1 .valid, start .pre .1 .asks, start .pre .1 .held)
+    record { valid = given (start .pre) .valid; asks = given (start .pre) .asks; held = given (start .pre) .held }
 
 same-length : (t : ℕ) → explore-lts.Need-same-length (claims t) (at t) explore.Post Inv μ
 same-length t c =
@@ -100,11 +107,11 @@ cut-off-requires t c κs = search needs
 returns-2 : (t : ℕ) → explore-lts.Need-returns-2 (claims t) (at t) explore.Post Inv μ
 returns-2 t c =
     let at-finished = c .before .before .before in
-    return-bound (at-finished .before .before .pre .1) (c .before .if2 .taken) (sym (at-finished .finished .ensures) ∙ c .before .before .if1 .left) (c .cut-off .result) (c .cut-off .ensures)
+    return-bound (given (at-finished .before .before .pre)) (c .before .if2 .taken) (sym (at-finished .finished .ensures) ∙ c .before .before .if1 .left) (c .cut-off .result) (c .cut-off .ensures)
 
 leave-requires : (t : ℕ) → explore-lts.Need-leave-requires (claims t) (at t) explore.Post Inv μ
 leave-requires t c κs =
-    let ready = c .before .before .before .before .pre .1 in
+    let ready = given (c .before .before .before .before .pre) in
     (ready .valid, ready .few)
 
 leave-off-requires : (t : ℕ) → explore-lts.Need-leave-off-requires (claims t) (at t) explore.Post Inv μ
@@ -113,28 +120,28 @@ leave-off-requires t c κs = search needs
 returns-3 : (t : ℕ) → explore-lts.Need-returns-3 (claims t) (at t) explore.Post Inv μ
 returns-3 t c =
     let at-leave = c .before .before in
-    return-left (at-leave .before .before .before .before .before .pre .1) (at-leave .leave .ensures (c .before .if3 .taken)) (c .leave-off .result) (c .leave-off .ensures)
+    return-left (given (at-leave .before .before .before .before .before .pre)) (at-leave .leave .ensures (c .before .if3 .taken)) (c .leave-off .result) (c .leave-off .ensures)
 
 sure-step-requires : (t : ℕ) → explore-lts.Need-sure-step-requires (claims t) (at t) explore.Post Inv μ
 sure-step-requires t c κs =
-    let ready = c .before .before .before .before .before .before .pre .1 in
-    (ready .valid, ready .forwards, ready .few)
+    let ready = given (c .before .before .before .before .before .before .pre) in
+    record { valid = ready .valid; forwards = ready .forwards; few = ready .few }
 
 positions-requires : (t : ℕ) → explore-lts.Need-positions-requires (claims t) (at t) explore.Post Inv μ
 positions-requires t c κs =
-    let ready = c .before .before .before .before .before .before .before .before .pre .1 in
+    let ready = given (c .before .before .before .before .before .before .before .before .pre) in
     ready .valid
 
 loop-holds : (t : ℕ) → explore-lts.Need-loop-holds (claims t) (at t) explore.Post Inv μ
 loop-holds t c =
     let at-sure = c .before .before in
     let start = at-sure .before .before .before .before .before .before .before in
-    loop-start (start .pre .1) (at-sure .before .before .before .if2 .left) (at-sure .sure-step .result) (at-sure .sure-step .ensures) (c .positions .ensures)
+    loop-start (given (start .pre)) (at-sure .before .before .before .if2 .left) (at-sure .sure-step .result) (at-sure .sure-step .ensures) (c .positions .ensures)
 
 choose-requires : (t : ℕ) → explore-lts.Need-choose-requires (claims t) (at t) explore.Post Inv μ
 choose-requires t c κs =
     let at-loop = c .before .before in
-    let ready = at-loop .before .before .before .before .before .before .before .before .before .before .pre .1 in
+    let ready = given (at-loop .before .before .before .before .before .before .before .before .before .before .pre) in
     (ready .valid, omega arith, to-most (at-loop .before .positions .ensures), at-loop .loop .inv .0 .long)
 
 rest-requires : (t : ℕ) → explore-lts.Need-rest-requires (claims t) (at t) explore.Post Inv μ
@@ -143,8 +150,13 @@ rest-requires t c κs =
     let at-loop = at-choose .before .before .before in
     let at-sure = at-loop .before .before .before in
     let start = at-sure .before .before .before .before .before .before .before in
-    let ready = start .pre .1 in
-    (ready .valid, omega (arith, c .if4 .taken, to-most (at-loop .before .positions .ensures)), at-loop .loop .inv .0 .long, loop-open ready (at-sure .before .before .before .if2 .left) (at-sure .sure-step .result) (at-sure .sure-step .ensures) (at-loop .before .positions .ensures) (at-loop .loop .inv) (at-choose .before .before .loop-test .taken) (at-choose .choose .result) (at-choose .choose .ensures) (c .if4 .taken))
+    let ready = given (start .pre) in
+    record {
+      valid = ready .valid;
+      low = omega (arith, c .if4 .taken, to-most (at-loop .before .positions .ensures));
+      long = at-loop .loop .inv .0 .long;
+      fits = loop-open ready (at-sure .before .before .before .if2 .left) (at-sure .sure-step .result) (at-sure .sure-step .ensures) (at-loop .before .positions .ensures) (at-loop .loop .inv) (at-choose .before .before .loop-test .taken) (at-choose .choose .result) (at-choose .choose .ensures) (c .if4 .taken);
+    }
 
 take-requires : (t : ℕ) → explore-lts.Need-take-requires (claims t) (at t) explore.Post Inv μ
 take-requires t c κs =
@@ -153,8 +165,12 @@ take-requires t c κs =
     let at-loop = at-choose .before .before .before in
     let at-sure = at-loop .before .before .before in
     let start = at-sure .before .before .before .before .before .before .before in
-    let ready = start .pre .1 in
-    (ready .valid, omega (arith, at-if .if4 .taken, to-most (at-loop .before .positions .ensures)), loop-open ready (at-sure .before .before .before .if2 .left) (at-sure .sure-step .result) (at-sure .sure-step .ensures) (at-loop .before .positions .ensures) (at-loop .loop .inv) (at-choose .before .before .loop-test .taken) (at-choose .choose .result) (at-choose .choose .ensures) (at-if .if4 .taken))
+    let ready = given (start .pre) in
+    record {
+      valid = ready .valid;
+      low = omega (arith, at-if .if4 .taken, to-most (at-loop .before .positions .ensures));
+      fits = loop-open ready (at-sure .before .before .before .if2 .left) (at-sure .sure-step .result) (at-sure .sure-step .ensures) (at-loop .before .positions .ensures) (at-loop .loop .inv) (at-choose .before .before .loop-test .taken) (at-choose .choose .result) (at-choose .choose .ensures) (at-if .if4 .taken);
+    }
 
 sub-explore : (t : ℕ) → explore-lts.Need-sub-explore (claims t) (at t) explore.Post Inv μ
 sub-explore t c =
@@ -171,9 +187,9 @@ explore-requires t c κs =
     let at-loop = at-choose .before .before .before in
     let at-sure = at-loop .before .before .before in
     let start = at-sure .before .before .before .before .before .before .before in
-    let ready = start .pre .1 in (
-      subst (λ (k : ℕ). start .args .n - 1 < k) (start .pre .0) (omega (arith, at-sure .before .before .before .if2 .left)),
-      loop-ready ready (at-sure .before .before .before .if2 .left) (at-sure .sure-step .result) (at-sure .sure-step .ensures) (at-loop .before .positions .ensures) (at-loop .loop .inv) (at-choose .before .before .loop-test .taken) (at-choose .choose .result) (at-choose .choose .ensures) (at-if .if4 .taken) (at-rest .rest .ensures) (record { shows = at-take .take .ensures .0; valid = at-take .take .ensures .1 }),
+    let ready = given (start .pre) in (
+      subst (λ (k : ℕ). start .args .n - 1 < k) (measured (start .pre)) (omega (arith, at-sure .before .before .before .if2 .left)),
+      loop-ready ready (at-sure .before .before .before .if2 .left) (at-sure .sure-step .result) (at-sure .sure-step .ensures) (at-loop .before .positions .ensures) (at-loop .loop .inv) (at-choose .before .before .loop-test .taken) (at-choose .choose .result) (at-choose .choose .ensures) (at-if .if4 .taken) (at-rest .rest .ensures) (record { shows = at-take .take .ensures .shows; valid = at-take .take .ensures .valid }),
     )
 
 same-length-2 : (t : ℕ) → explore-lts.Need-same-length-2 (claims t) (at t) explore.Post Inv μ
@@ -192,8 +208,8 @@ returns-4 t c =
     let at-loop = at-choose .before .before .before in
     let at-sure = at-loop .before .before .before in
     let start = at-sure .before .before .before .before .before .before .before in
-    let ready = start .pre .1 in
-    return-branch ready (at-sure .before .before .before .if2 .left) (at-sure .sure-step .result) (at-sure .sure-step .ensures) (at-loop .before .positions .ensures) (at-loop .loop .inv) (at-choose .before .before .loop-test .taken) (at-choose .choose .result) (at-choose .choose .ensures) (at-if .if4 .taken) (at-rest .rest .ensures) (record { shows = at-take .take .ensures .0; valid = at-take .take .ensures .1 }) (at-explore .explore .ensures) (c .if5 .taken)
+    let ready = given (start .pre) in
+    return-branch ready (at-sure .before .before .before .if2 .left) (at-sure .sure-step .result) (at-sure .sure-step .ensures) (at-loop .before .positions .ensures) (at-loop .loop .inv) (at-choose .before .before .loop-test .taken) (at-choose .choose .result) (at-choose .choose .ensures) (at-if .if4 .taken) (at-rest .rest .ensures) (record { shows = at-take .take .ensures .shows; valid = at-take .take .ensures .valid }) (at-explore .explore .ensures) (c .if5 .taken)
 
 note-requires : (t : ℕ) → explore-lts.Need-note-requires (claims t) (at t) explore.Post Inv μ
 note-requires t c κs =
@@ -202,8 +218,8 @@ note-requires t c κs =
     let at-loop = at-choose .before .before .before in
     let at-sure = at-loop .before .before .before in
     let start = at-sure .before .before .before .before .before .before .before in
-    let ready = start .pre .1 in
-    (omega (arith, at-if .if4 .taken, to-most (at-loop .before .positions .ensures)), at-loop .loop .inv .0 .long)
+    let ready = given (start .pre) in
+    record { low = omega (arith, at-if .if4 .taken, to-most (at-loop .before .positions .ensures)); long = at-loop .loop .inv .0 .long }
 
 add-at : (t : ℕ) → explore-lts.Need-add-at (claims t) (at t) explore.Post Inv μ
 add-at t c =
@@ -211,7 +227,7 @@ add-at t c =
     let at-loop = at-choose .before .before .before in
     let at-sure = at-loop .before .before .before in
     let start = at-sure .before .before .before .before .before .before .before in
-    let ready = start .pre .1 in
+    let ready = given (start .pre) in
     omega (arith, loop-most ready (at-sure .before .before .before .if2 .left) (at-sure .sure-step .result) (at-sure .sure-step .ensures) (at-loop .before .positions .ensures) (at-loop .loop .inv) (at-choose .before .before .loop-test .taken) (at-choose .choose .result) (at-choose .choose .ensures), to-most (at-loop .before .positions .ensures))
 
 loop-less : (t : ℕ) → explore-lts.Need-loop-less (claims t) (at t) explore.Post Inv μ
@@ -220,7 +236,7 @@ loop-less t c =
     let at-loop = at-choose .before .before .before in
     let at-sure = at-loop .before .before .before in
     let start = at-sure .before .before .before .before .before .before .before in
-    let ready = start .pre .1 in
+    let ready = given (start .pre) in
     omega (arith, loop-falls ready (at-sure .before .before .before .if2 .left) (at-sure .sure-step .result) (at-sure .sure-step .ensures) (at-loop .before .positions .ensures) (at-loop .loop .inv) (at-choose .before .before .loop-test .taken) (at-choose .choose .result) (at-choose .choose .ensures))
 
 loop-again : (t : ℕ) → explore-lts.Need-loop-again (claims t) (at t) explore.Post Inv μ
@@ -229,10 +245,10 @@ loop-again t c =
     let at-loop = at-choose .before .before .before in
     let at-sure = at-loop .before .before .before in
     let start = at-sure .before .before .before .before .before .before .before in
-    let ready = start .pre .1 in
+    let ready = given (start .pre) in
     ⊎-elim
     (λ w. turns-same (w .10) (w .11) (w .12)
-    (loop-turn ready (at-sure .before .before .before .if2 .left) (at-sure .sure-step .result) (at-sure .sure-step .ensures) (at-loop .before .positions .ensures) (at-loop .loop .inv) (at-choose .before .before .loop-test .taken) (at-choose .choose .result) (at-choose .choose .ensures) (w .0 .taken) (w .1 .ensures) (record { shows = w .2 .ensures .0; valid = w .2 .ensures .1 }) (w .4 .ensures) (w .8 .left) (w .9 .ensures)))
+    (loop-turn ready (at-sure .before .before .before .if2 .left) (at-sure .sure-step .result) (at-sure .sure-step .ensures) (at-loop .before .positions .ensures) (at-loop .loop .inv) (at-choose .before .before .loop-test .taken) (at-choose .choose .result) (at-choose .choose .ensures) (w .0 .taken) (w .1 .ensures) (record { shows = w .2 .ensures .shows; valid = w .2 .ensures .valid }) (w .4 .ensures) (w .8 .left) (w .9 .ensures)))
     (λ w. turns-same (w .1) (w .2) (w .3) (loop-skip ready (at-sure .before .before .before .if2 .left) (at-sure .sure-step .result) (at-sure .sure-step .ensures) (at-loop .before .positions .ensures) (at-loop .loop .inv) (at-choose .before .before .loop-test .taken) (at-choose .choose .result) (at-choose .choose .ensures) (w .0 .left)))
     (c .if4 .came)
 
@@ -244,7 +260,7 @@ returns-5 t c =
     let at-loop = c .before in
     let at-sure = at-loop .before .before .before in
     let at-finished = at-sure .before .before .before .before .before in
-    return-swept (at-finished .before .before .pre .1) (at-sure .before .before .before .if2 .left) (at-sure .sure-step .result) (at-sure .sure-step .ensures) (at-loop .before .positions .ensures) (sym (at-finished .finished .ensures) ∙ at-sure .before .before .before .before .if1 .left) (at-loop .loop .inv) (c .loop-test .left)
+    return-swept (given (at-finished .before .before .pre)) (at-sure .before .before .before .if2 .left) (at-sure .sure-step .result) (at-sure .sure-step .ensures) (at-loop .before .positions .ensures) (sym (at-finished .finished .ensures) ∙ at-sure .before .before .before .before .if1 .left) (at-loop .loop .inv) (c .loop-test .left)
 
 pub +explore-spec : {M : Type 1} → statement M
 +explore-spec = close μ-explore λ t. explore-lts.spec (claims t)

@@ -49,7 +49,7 @@ returns-2 c =
     let at-registers = at-meets .before .before in
     let start = at-registers .before .before in
     let a = start .args in
-    λ f sp n. searched-unwanted (a .c) (wanted (a .asked)) (shown (a .c) (a .m)) sp n f (at-registers .registers .result) (at-registers .registers .ensures) (sym (at-meets .asked-meets .ensures) ∙ c .if1 .left) (start .pre .2)
+    λ f sp n. searched-unwanted (a .c) (wanted (a .asked)) (shown (a .c) (a .m)) sp n f (at-registers .registers .result) (at-registers .registers .ensures) (sym (at-meets .asked-meets .ensures) ∙ c .if1 .left) (start .pre .held)
 
 pub finish-spec : {M : Type 1} → statement M
 finish-spec =

@@ -19,7 +19,7 @@ array-write-more : tie.Need-array-write-more
 array-write-more c = search needs
 
 returns : tie.Need-returns
-returns c = let b = c .before in rw (c .one .ensures) (note-one (b .args .spent) (b .args .j) (b .pre .1) (b .pre .0))
+returns c = let b = c .before in rw (c .one .ensures) (note-one (b .args .spent) (b .args .j) (b .pre .long) (b .pre .low))
 
 pub note-spec : {M : Type 1} → statement M
 note-spec =

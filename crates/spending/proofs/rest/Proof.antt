@@ -20,7 +20,7 @@ array-write-less c = search needs
 returns : tie.Need-returns
 returns c =
     let b = c .before .before in
-    rest-issue (shown (b .args .c) (b .args .m)) (b .args .spent) (b .pre .2) (c .still-spent .result) (b .args .j) (c .before .if1 .taken) (c .still-spent .ensures)
+    rest-issue (shown (b .args .c) (b .args .m)) (b .args .spent) (b .pre .long) (c .still-spent .result) (b .args .j) (c .before .if1 .taken) (c .still-spent .ensures)
 
 action-at-requires : tie.Need-action-at-requires
 action-at-requires c κs = search needs
@@ -29,7 +29,7 @@ returns-2 : tie.Need-returns-2
 returns-2 c =
     let b = c .before .before .before in
     let s = shown (b .args .c) (b .args .m) in
-    rest-none s (b .args .spent) (b .pre .2) (b .args .j) (c .before .action-at .result) (c .before .before .if1 .left) (c .before .action-at .ensures) (unissued-kind (b .args .c) (b .args .m .issued) (b .args .m .acts) (c .before .action-at .result) (c .if2 .taken))
+    rest-none s (b .args .spent) (b .pre .long) (b .args .j) (c .before .action-at .result) (c .before .before .if1 .left) (c .before .action-at .ensures) (unissued-kind (b .args .c) (b .args .m .issued) (b .args .m .acts) (c .before .action-at .result) (c .if2 .taken))
 
 mul-e : tie.Need-mul-e
 mul-e c = search needs
@@ -45,7 +45,7 @@ returns-3 c =
     let b = c .before .before .before .before .before .before .before in
     let s = shown (b .args .c) (b .args .m) in
     let k = c .before .before .before .before .before .action-at .result in
-    rest-none s (b .args .spent) (b .pre .2) (b .args .j) k (c .before .before .before .before .before .before .if1 .left) (c .before .before .before .before .before .action-at .ensures) (λ z. c .if3 .taken (c .before .kind-of .ensures .0 ∙ sym (ap kindOf (action-at (b .args .c) (b .args .m .issued) (b .args .m .acts) s (record { count = refl; actions = refl }) k (c .before .before .before .before .if2 .left))) ∙ z))
+    rest-none s (b .args .spent) (b .pre .long) (b .args .j) k (c .before .before .before .before .before .before .if1 .left) (c .before .before .before .before .before .action-at .ensures) (λ z. c .if3 .taken (c .before .kind-of .ensures .0 ∙ sym (ap kindOf (action-at (b .args .c) (b .args .m .issued) (b .args .m .acts) s (record { count = refl; actions = refl }) k (c .before .before .before .before .if2 .left))) ∙ z))
 
 woken-requires : tie.Need-woken-requires
 woken-requires c κs = search needs
@@ -59,7 +59,7 @@ returns-4 c =
     let s = shown (b .args .c) (b .args .m) in
     let k = c .before .before .before .before .before .before .before .action-at .result in
     let h : Acts (b .args .c) (b .args .m .issued) (b .args .m .acts) s = record { count = refl; actions = refl } in
-    rest-acquire s (b .args .spent) (b .pre .2) (b .args .c) (b .args .m .acts) (getD (b .args .m .acts) k blankEntry) (c .before .woken .result) (c .cleared .result) (b .args .j) k h (c .before .before .before .before .before .before .before .before .if1 .left) (c .before .before .before .before .before .before .before .action-at .ensures) (action-at (b .args .c) (b .args .m .issued) (b .args .m .acts) s h k (c .before .before .before .before .before .before .if2 .left)) (c .before .woken .ensures s h) (c .cleared .ensures)
+    rest-acquire s (b .args .spent) (b .pre .long) (b .args .c) (b .args .m .acts) (getD (b .args .m .acts) k blankEntry) (c .before .woken .result) (c .cleared .result) (b .args .j) k h (c .before .before .before .before .before .before .before .before .if1 .left) (c .before .before .before .before .before .before .before .action-at .ensures) (action-at (b .args .c) (b .args .m .issued) (b .args .m .acts) s h k (c .before .before .before .before .before .before .if2 .left)) (c .before .woken .ensures s h) (c .cleared .ensures)
 
 pub rest-spec : {M : Type 1} → statement M
 rest-spec =

@@ -27,7 +27,13 @@ issue-code-requires : tie.Need-issue-code-requires
 issue-code-requires c κs =
     let b = c .before .before .before .before .before .before .before .before .before .before .before in
     let v = b .pre in
-    (v .fit, v .issued, v .acts-long, v .names-long, omega (arith, v .fit .procs, c .before .before .before .before .before .before .before .before .if2 .left, c .before .before .before .before .before .before .before .wide .ensures .0))
+    record {
+      fit = v .fit;
+      issued = v .issued;
+      acts-long = v .acts-long;
+      names-long = v .names-long;
+      proc = omega (arith, v .fit .procs, c .before .before .before .before .before .before .before .before .if2 .left, c .before .before .before .before .before .before .before .wide .ensures .0);
+    }
 
 returns-5 : tie.Need-returns-5
 returns-5 c =
@@ -50,7 +56,13 @@ commit-code-requires : tie.Need-commit-code-requires
 commit-code-requires c κs =
     let b = c .before .before .before .before .before .before .before .before .before .before .before in
     let v = b .pre in
-    (v .issued, v .acts-long, v .holders-long, omega (arith, v .fit .procs, c .before .before .before .before .before .before .before .before .if2 .left, c .before .before .before .before .before .before .before .wide .ensures .0), v .entries)
+    record {
+      issued = v .issued;
+      acts-long = v .acts-long;
+      holders-long = v .holders-long;
+      proc = omega (arith, v .fit .procs, c .before .before .before .before .before .before .before .before .if2 .left, c .before .before .before .before .before .before .before .wide .ensures .0);
+      entries = v .entries;
+    }
 
 returns-6 : tie.Need-returns-6
 returns-6 c =

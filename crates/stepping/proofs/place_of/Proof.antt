@@ -11,13 +11,13 @@ element-copy-out-result : tie.Need-element-copy-out-result
 element-copy-out-result c =
     let b = c .before .before .before in
     let a = b .args in
-    issue-low (a .c) (a .t2) (b .pre .0) (a .kind) (a .proc) (a .action) (a .source) (a .code) (b .pre .1) (sym (c .before .before .names .ensures) ∙ c .before .if1 .taken) (c .if2 .taken)
+    issue-low (a .c) (a .t2) (b .pre .valid) (a .kind) (a .proc) (a .action) (a .source) (a .code) (b .pre .is) (sym (c .before .before .names .ensures) ∙ c .before .if1 .taken) (c .if2 .taken)
 
 returns : tie.Need-returns
 returns c =
     let b = c .before .before .before .before in
     let a = b .args in
-    issue-place (a .c) (a .t2) (b .pre .0) (a .kind) (a .proc) (a .action) (a .source) (a .code) (b .pre .1) (sym (c .before .before .before .names .ensures) ∙ c .before .before .if1 .taken) (c .before .if2 .taken)
+    issue-place (a .c) (a .t2) (b .pre .valid) (a .kind) (a .proc) (a .action) (a .source) (a .code) (b .pre .is) (sym (c .before .before .before .names .ensures) ∙ c .before .before .if1 .taken) (c .before .if2 .taken)
 
 mul-e : tie.Need-mul-e
 mul-e c = search needs
@@ -26,19 +26,19 @@ element-copy-out-e : tie.Need-element-copy-out-e
 element-copy-out-e c =
     let b = c .before .before .before in
     let a = b .args in
-    commit-low (a .c) (a .t2) (b .pre .0) (a .kind) (a .proc) (a .action) (a .source) (a .code) (b .pre .1) (sym (c .before .before .names .ensures) ∙ c .before .if1 .taken) (c .if2 .left)
+    commit-low (a .c) (a .t2) (b .pre .valid) (a .kind) (a .proc) (a .action) (a .source) (a .code) (b .pre .is) (sym (c .before .before .names .ensures) ∙ c .before .if1 .taken) (c .if2 .left)
 
 returns-2 : tie.Need-returns-2
 returns-2 c =
     let b = c .before .before .before .before in
     let a = b .args in
-    commit-place (a .c) (a .t2) (b .pre .0) (a .kind) (a .proc) (a .action) (a .source) (a .code) (b .pre .1) (sym (c .before .before .before .names .ensures) ∙ c .before .before .if1 .taken) (c .before .if2 .left)
+    commit-place (a .c) (a .t2) (b .pre .valid) (a .kind) (a .proc) (a .action) (a .source) (a .code) (b .pre .is) (sym (c .before .before .before .names .ensures) ∙ c .before .before .if1 .taken) (c .before .if2 .left)
 
 returns-3 : tie.Need-returns-3
 returns-3 c =
     let b = c .before .before in
     let a = b .args in
-    no-place (a .c) (a .t2) (b .pre .0) (a .kind) (a .proc) (a .action) (a .source) (a .code) (b .pre .1) (sym (c .before .names .ensures) ∙ c .if1 .left)
+    no-place (a .c) (a .t2) (b .pre .valid) (a .kind) (a .proc) (a .action) (a .source) (a .code) (b .pre .is) (sym (c .before .names .ensures) ∙ c .if1 .left)
 
 pub place-of-spec : {M : Type 1} → statement M
 place-of-spec =

@@ -17,7 +17,7 @@ issue-requires c κs =
     let a = b .args in
     let s = shown (a .c) (a .m) in
     let w = sym (c .before .wide .ensures .0) in
-    (b .pre .0, subst (λ (p : ℕ). stepCode (a .c) s (issue p) ≡ 0) w (subst (λ (t : Step). stepCode (a .c) s t ≡ 0) (issue-accepted (a .c) s (a .kind) (a .proc) (a .action) (a .source) (c .if1 .taken) (b .pre .1)) (b .pre .1)))
+    record { valid = b .pre .valid; fits = subst (λ (p : ℕ). stepCode (a .c) s (issue p) ≡ 0) w (subst (λ (t : Step). stepCode (a .c) s t ≡ 0) (issue-accepted (a .c) s (a .kind) (a .proc) (a .action) (a .source) (c .if1 .taken) (b .pre .fits)) (b .pre .fits)) }
 
 returns : tie.Need-returns
 returns c =
@@ -25,7 +25,7 @@ returns c =
     let a = b .args in
     let s = shown (a .c) (a .m) in
     let r = c .issue .ensures in
-    (r .0 ∙ sym (after-issue (a .c) s (c .before .before .wide .result)) ∙ ap (λ (p : ℕ). after (a .c) s (issue p)) (c .before .before .wide .ensures .0) ∙ ap (after (a .c) s) (sym (issue-accepted (a .c) s (a .kind) (a .proc) (a .action) (a .source) (c .before .if1 .taken) (b .pre .1))), r .1)
+    record { shows = r .shows ∙ sym (after-issue (a .c) s (c .before .before .wide .result)) ∙ ap (λ (p : ℕ). after (a .c) s (issue p)) (c .before .before .wide .ensures .0) ∙ ap (after (a .c) s) (sym (issue-accepted (a .c) s (a .kind) (a .proc) (a .action) (a .source) (c .before .if1 .taken) (b .pre .fits))); valid = r .valid }
 
 wide-requires-2 : tie.Need-wide-requires-2
 wide-requires-2 c κs = search needs
@@ -41,8 +41,8 @@ commit-requires c κs =
     let w = sym (c .before .before .before .wide .ensures .0) in
     let y = sym (c .before .wide2 .ensures .0) in
     let z = sym (c .wide3 .ensures .0) in
-    let q = ap (stepCode (a .c) s) (commit-accepted (a .c) s (a .kind) (a .proc) (a .action) (a .source) (c .before .before .if1 .left) (b .pre .1)) ∙ (λ j. stepCode (a .c) s (commit (w j) (y j) (z j))) in
-    (b .pre .0, sym q ∙ b .pre .1)
+    let q = ap (stepCode (a .c) s) (commit-accepted (a .c) s (a .kind) (a .proc) (a .action) (a .source) (c .before .before .if1 .left) (b .pre .fits)) ∙ (λ j. stepCode (a .c) s (commit (w j) (y j) (z j))) in
+    record { valid = b .pre .valid; fits = sym q ∙ b .pre .fits }
 
 returns-2 : tie.Need-returns-2
 returns-2 c =
@@ -53,7 +53,7 @@ returns-2 c =
     let y = c .before .before .wide2 .ensures .0 in
     let z = c .before .wide3 .ensures .0 in
     let r = c .commit .ensures in
-    (r .0 ∙ sym (after-commit (a .c) s (c .before .before .before .before .wide .result) (c .before .before .wide2 .result) (c .before .wide3 .result)) ∙ (λ j. after (a .c) s (commit (w j) (y j) (z j))) ∙ ap (after (a .c) s) (sym (commit-accepted (a .c) s (a .kind) (a .proc) (a .action) (a .source) (c .before .before .before .if1 .left) (b .pre .1))), r .1)
+    record { shows = r .shows ∙ sym (after-commit (a .c) s (c .before .before .before .before .wide .result) (c .before .before .wide2 .result) (c .before .wide3 .result)) ∙ (λ j. after (a .c) s (commit (w j) (y j) (z j))) ∙ ap (after (a .c) s) (sym (commit-accepted (a .c) s (a .kind) (a .proc) (a .action) (a .source) (c .before .before .before .if1 .left) (b .pre .fits))); valid = r .valid }
 
 pub taken-spec : {M : Type 1} → statement M
 taken-spec =
