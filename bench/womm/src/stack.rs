@@ -2,7 +2,7 @@
 
 use std::thread;
 
-/// A search at bound 96 takes a little over a megabyte; pages that are not touched cost nothing.
+/// A search at bound 96 takes about a quarter of a megabyte (`examples/stack` tells); pages that are not touched cost nothing.
 const STACK: usize = 16 << 20;
 
 /// Does something on a thread that has stack enough, whatever the caller's has.

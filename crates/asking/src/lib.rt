@@ -53,7 +53,8 @@ fn within_reach(c: Case, m: Machine, n: usize, ahead: bool, asked: Asked) -> Rea
         cut: false,
         full: false,
     };
-    let tally = searching::explore(c, m, n, ahead, asked, [0u64; 50], &mut none, empty);
+    let fresh = [0u64; 50];
+    let tally = searching::explore(c, m, 3200, n, ahead, asked, &fresh, &mut none, empty);
     Reach {
         found: tally.full,
         cut: tally.cut,
@@ -104,7 +105,7 @@ fn row_span(c: Case, m: Machine, i: usize) -> Span
     if m.issued <= k {
         return Span { from: 0, to: 0 };
     }
-    let e = m.acts[k];
+    let e = machine::entry_at(&m.acts, k);
     if words::wide(e.proc) != p {
         return Span { from: 0, to: 0 };
     }
@@ -153,7 +154,7 @@ fn bytes_at(c: Case, m: Machine, j: usize) -> Bytes
         };
     }
     let k = spending::action_at(j);
-    let e = m.acts[k];
+    let e = machine::entry_at(&m.acts, k);
     Bytes {
         kind: 1,
         proc: e.proc,

@@ -1,5 +1,6 @@
 pub mod Lowest
 pub mod Spans
+pub mod Skipping
 pub mod Registers
 pub mod Fields
 pub mod Agree

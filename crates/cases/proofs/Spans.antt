@@ -10,7 +10,7 @@ use Rattle.words.proofs.First.{and-no-left, and-no-right}
 use Rattle.cases.specs.Block.{within, bad3, bad4, zero5, bad5, bad6, bad7, bad19, bad}
 use Rattle.cases.proofs.Lowest.{bad-else}
 
-before : (from to i : ℕ) → i < from → within from to i ≡ false
+pub before : (from to i : ℕ) → i < from → within from to i ≡ false
 before from to i h = and-no-left (leb from i) (ltb i to) (lt-leb from i h)
 
 after : (from to i : ℕ) → to ≤ i → within from to i ≡ false

@@ -7,7 +7,7 @@ ghost use Prim.Native.Nat.{_-_, _≤_, _<_};
 ghost use Rattle.words.specs.Refusals.{firstOf};
 ghost use Rattle.cases.specs.Instruction.{badField, fieldAt, fieldOf};
 ghost use Rattle.cases.specs.Block.{within as withinOf, marked as isMarked, noProc, noLoc, used as isUsed, bad3 as isBad3, bad4 as isBad4, zero5 as mustBeZero5, bad5 as isBad5, badByte, bad6 as isBad6, bad7 as isBad7, assignsAt, isSet, readsAt, bad19 as isBad19, bad as isBad, lowest as lowestOf, faults, faultOf};
-ghost use Rattle.cases.specs.Given.{StartOf, EndOf};
+ghost use Rattle.cases.specs.Given.{StartOf, EndOf, inUse, Within, Skipped};
 
 // How far position i lies past another, 0 before it.
 fn past(from: usize, i: usize) -> usize
@@ -309,18 +309,62 @@ fn end_of(code: u8) -> usize
     }
 }
 
+// The first position from `from` on whose byte is not zero, or the end where there is none before it.
+fn next_marked(block: &[u8], from: usize, end: usize) -> usize
+    requires { ⌜ Within from end ⌝ }
+    ensures { λ r. ⌜ Skipped (isMarked (now (block .entry))) from r ⌝ }
+{
+    let mut i = from;
+    while i < end {
+        if marked(block, i) {
+            return i;
+        }
+        i += 1;
+    }
+    i
+}
+
+// The position i where a used instruction stands, or else where the next processor's instructions start.
+fn next_used(block: &[u8], i: usize) -> usize
+    requires { ⌜ i ≤ 510 ⌝ }
+    ensures { λ r. ⌜ Skipped (inUse (now (block .entry))) i r ⌝ }
+{
+    if 380 <= i {
+        return i;
+    }
+    let n = past(92, i);
+    if used(block, n / 72, n % 72 / 6) {
+        return i;
+    }
+    164 + n / 72 * 72
+}
+
+// The position i, or a later one with none before it that is bad for a code; `end` is where the code's positions end.
+fn skip(block: &[u8], code: u8, i: usize, end: usize) -> usize
+    requires { ⌜ Within i end ⌝ }
+    ensures { λ r. ⌜ Skipped (isBad (now (block .entry)) code) i r ⌝ }
+{
+    match code {
+        5 => next_marked(block, i, end),
+        6 => next_used(block, i),
+        7 => next_marked(block, i, end),
+        19 => next_used(block, i),
+        _ => i,
+    }
+}
+
 // The lowest position that is bad for a code, 510 where none is.
 fn lowest(block: &[u8], code: u8) -> usize
     requires { ⌜ 3 ≤ code ⌝ }
     ensures { λ r. ⌜ r ≡ lowestOf 510 (isBad (now (block .entry)) code) ⌝ }
 {
     let end = end_of(code);
-    let mut i = start_of(code);
+    let mut i = skip(block, code, start_of(code), end);
     while i < end {
         if bad(block, code, i) {
             return i;
         }
-        i += 1;
+        i = skip(block, code, i + 1, end);
     }
     510
 }

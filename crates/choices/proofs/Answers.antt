@@ -18,34 +18,28 @@ use Rattle.rules.specs.Step.{issue, commit, stepCode, after}
 use Rattle.rules.proofs.Accepted.{can-commit, after-issue, after-commit}
 use Rattle.sure.specs.Sure.{sureKind, roomy}
 use Rattle.sure.specs.Marked.{Alone}
-use Rattle.sure.specs.Dead.{DeadRead}
+use Rattle.sure.specs.Dead.{Ignored, DeadRead}
 use Rattle.sure.specs.Quiet.{ended, pending, quiet}
 use Rattle.sure.specs.Spent.{Key, taking, issuing, stepBy}
 use Rattle.spending.specs.Words.{keyAt, opens}
 use Rattle.choices.specs.Choice.{SureAt, QuietAt}
-use Rattle.choices.specs.Opening.{SureCommit, DeadAt, SettledRead}
+use Rattle.choices.specs.Opening.{Queued, FirstOf, SureCommit, DeadAt, SettledRead}
 use Rattle.spending.proofs.Spends.{key-read, key-lone, key-issue}
 use Rattle.spending.proofs.Rests.{actionAt, sourceAt, key-taken}
+use Rattle.choices.proofs.Queued.{left-out}
 use Rattle.choices.proofs.Opens.{opens-accepts}
 
 -- sure commits
 
-pub sure-test : (k q : ℕ) → k ≡ q → (not (eqb k 1) && not (eqb k 6)) ≡ sureKind q
-sure-test k q h = rw h (both (eqb q 1) (eqb q 6))
-  where
-    both : (a b : Bool) → (not a && not b) ≡ not (a || b)
-    both true b = refl
-    both false b = refl
-
 -- the commit of a dead read, at its position
-pub dead-at : (c : Case) (s : State) (k e : ℕ) → k < 48 → e < 64 → opens c s k e ≡ true → DeadRead s k → DeadAt c s (64 * k + e)
-dead-at c s k e l h o d =
+pub dead-at : (c : Case) (s : State) (k e : ℕ) → k < 48 → e < 64 → opens c s k e ≡ true → (set : ℕ → Bool) → Ignored s set → set k ≡ true → DeadAt c s (64 * k + e)
+dead-at c s k e l h o set i m =
     let p : (64 * k + e) / 64 ≡ k = omega arith in
     let q : (64 * k + e) % 64 ≡ e = omega arith in
     record {
       low = omega (arith, p);
       opened = ap₂ (opens c s) p q ∙ o;
-      gone = subst (DeadRead s) (sym p) d;
+      gone = subst (DeadRead s) (sym p) (record { reads = opens-accepts c s k e l o .0; set = set; ignored = i; among = m });
     }
 
 module _ (c : Case) (s : State) where
@@ -67,11 +61,16 @@ module _ (c : Case) (s : State) where
     pub sure-refused : (b : Bool) → b ≡ eqb (stepCode c s (commit (s .actions n .proc) n 0)) 0 → b ≡ false → NoSure (n + 1)
     sure-refused b e f = next (λ p q. absurd (false≢true (sym f ∙ e ∙ eq-eqb _ 0 q)))
 
-    pub sure-other : (b : Bool) → b ≡ sureKind (kindOf (s .actions n)) → b ≡ false → NoSure (n + 1)
-    sure-other b e f = next (λ p q. absurd (false≢true (sym f ∙ e ∙ p)))
+  -- up to the next that is queued
+  pub sure-over : c .procs ≤ 4 → (x n end r : ℕ) → Queued s sureKind x → FirstOf x n end r → NoSure n → NoSure r
+  sure-over few x n end r Q F N k h p q =
+      elim (decLt k n) [
+        | yes l ↦ N k l p q
+        | no l ↦ left-out c s few sureKind x Q k 0 p (F .skipped k (omega arith) h) q
+      ]
 
-  pub sure-here : (k : ℕ) (b d : Bool) → k < 48 → b ≡ sureKind (kindOf (s .actions k)) → b ≡ true → d ≡ eqb (stepCode c s (commit (s .actions k .proc) k 0)) 0 → d ≡ true → SureCommit c s k
-  sure-here k b d h p x q y = record { found = λ l. (eqb-true _ 0 (sym q ∙ y), sym p ∙ x); none = λ l. absurd (omega arith) }
+  pub sure-here : (k : ℕ) (d : Bool) → k < 48 → sureKind (kindOf (s .actions k)) ≡ true → d ≡ eqb (stepCode c s (commit (s .actions k .proc) k 0)) 0 → d ≡ true → SureCommit c s k
+  sure-here k d h x q y = record { found = λ l. (eqb-true _ 0 (sym q ∙ y), x); none = λ l. absurd (omega arith) }
 
   pub sure-nowhere : NoSure (s .count) → SureCommit c s 48
   sure-nowhere N = record { found = λ l. absurd (omega arith); none = λ l. N }

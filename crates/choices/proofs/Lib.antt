@@ -1,4 +1,4 @@
-pub mod Sights
+pub mod Queued
 pub mod Opens
 pub mod Next
 pub mod Answers

@@ -1,19 +1,19 @@
--- The next position of a sweep, and a set that is not empty. Assumes nothing.
-use mathlib.Core.Path.{_≡_, sym, ap, subst, _∙_}
+-- The next position of a sweep. Assumes nothing.
+use mathlib.Core.Path.{_≡_, refl, sym, ap, subst, _∙_}
 use mathlib.Core.Logic.{inr, ⊎-elim}
 use mathlib.Core.Bool.{true, false, false≢true}
 use mathlib.Core.List.{List}
-use Prim.Native.Nat.{ℕ, zero, suc, _+_, _/_, _%_, _^_, _<_, _≤_}
+use Prim.Native.Nat.{ℕ, _+_, _/_, _%_, _<_, _≤_}
 use native.Mathlib.Omega.{arith}
 use native.Mathlib.Decide.{decLt}
-use lib.Dec.{eqb, ltb}
+use lib.Dec.{ltb}
 use lib.ListN.{getD}
-use lib.Pow.{shr-shr}
-use borrow.Author.Tests.{eq-eqb, lt-ltb}
+use borrow.Author.Tests.{lt-ltb}
 use Rattle.words.specs.Sets.{has}
 use Rattle.words.proofs.Sets.{has-zero}
 use Rattle.words.proofs.Bools.{decide, or-left, and-make}
 use Rattle.cases.specs.declared.Case.{Case}
+use Rattle.rules.specs.Kinds.{reading}
 use Rattle.rules.specs.State.{State}
 use Rattle.sure.specs.Spent.{taking}
 use Rattle.sure.specs.Equal.{Needless}
@@ -21,8 +21,10 @@ use Rattle.sure.proofs.Equal.{needless-spent}
 use Rattle.spending.specs.Words.{keyIn, opens, spentBy, keyAt, opensAt}
 use Rattle.choices.specs.Choice.{NextAt}
 use Rattle.needless.specs.Echoes.{EchoIn, Unechoed}
-use Rattle.choices.specs.Opening.{FirstFresh}
+use Rattle.choices.specs.Opening.{FirstFresh, Queued, Readless}
 use Rattle.spending.proofs.Spends.{key-read}
+use Rattle.needless.proofs.Echoing.{all-left}
+use Rattle.choices.proofs.Queued.{left-out}
 use Rattle.choices.proofs.Opens.{opens-accepts}
 
 -- every bit from `at` on, before i, that is set is spent
@@ -97,21 +99,27 @@ module _ (c : Case) (s : State) (now : List ℕ) (at to : ℕ) where
           found = λ k. (sym (open-at r (F .from) h) ∙ rest .inside (r % 64) (F .found h .0), F .found h .1);
         }
 
+  -- no read that is left out of the queued ones is accepted
+  pub pass-over : c .procs ≤ 4 → (reads j r : ℕ) → Queued s reading reads → Readless reads j to r → Passed c s now at j → Passed c s now at r
+  pass-over few reads j r Q R P q a b x =
+      elim (decLt q j) [
+        | yes l ↦ P q a l x
+        | no l ↦ let w = opens-accepts c s (q / 64) (q % 64) (R .low q (omega arith) b) x in absurd (left-out c s few reading reads Q (q / 64) (q % 64) (w .0) (R .skipped q (omega arith) b) (w .1))
+      ]
+
   pub next-none : (j : ℕ) → j ≡ to → at ≤ to → Passed c s now at j → NextAt c s now at to to
   next-none j e a P = record { from = a; upto = omega arith; skipped = subst (Passed c s now at) e P; found = λ k. absurd (omega arith) }
 
--- a number that is not 0 has a bit
+  -- the word of issues is the last, and leaves out nothing
+  pub next-last : (j word r : ℕ) → 3136 ≤ j → j < to → to ≤ 3200 → at ≤ j → ((e : ℕ) → has word e ≡ opens c s 49 e) → FirstFresh word now j to r → Passed c s now at j → NextAt c s now at to r
+  next-last j word r h k t a bits F P =
+      elim (decLt r to) [
+        | yes l ↦ next-found j to word same t here word (all-left c s now (j / 64) word) r a (omega arith) F l P
+        | no l ↦ let z : r ≡ to = omega (arith, F .upto) in subst (NextAt c s now at to) (sym z) (next-none to refl (omega arith) (pass-more j to word same t here word (all-left c s now (j / 64) word) r F (omega arith) P))
+      ]
+    where
+      same : (i : ℕ) → j ≤ i → i < to → i / 64 ≡ j / 64
+      same i x y = omega arith
 
-half-bit : (x e : ℕ) → has (x / 2) e ≡ has x (1 + e)
-half-bit x e = ap (λ (n : ℕ). eqb (n % 2) 1) (shr-shr x 1 e)
-
-pub some-bit : (n x : ℕ) → x ≤ n → (x ≡ 0 → ⊥) → (e : ℕ) × (has x e ≡ true)
-some-bit zero x h z = absurd (z (omega arith))
-some-bit (suc n) x h z =
-    elim (decLt (x % 2) 1) [
-      | yes k ↦ let r = some-bit n (x / 2) (omega (arith, positive z)) (λ q. z (omega arith)) in (1 + r .0, sym (half-bit x (r .0)) ∙ r .1)
-      | no k ↦ (0, eq-eqb (x / 2 ^ 0 % 2) 1 (omega arith))
-    ]
-  where
-    positive : (x ≡ 0 → ⊥) → 0 < x
-    positive q = omega arith
+      here : (e : ℕ) → e < 64 → has word e ≡ opens c s (j / 64) e
+      here e l = let w : j / 64 ≡ 49 = omega arith in bits e ∙ ap (λ (v : ℕ). opens c s v e) (sym w)

@@ -1,31 +1,39 @@
 -- The accepted steps of each word. Assumes nothing.
-use mathlib.Core.Path.{_≡_, refl, sym, ap, _∙_}
-use mathlib.Core.Bool.{Bool, true, false, _&&_, _||_, not}
+use mathlib.Core.Path.{_≡_, refl, sym, ap, ap₂, subst, _∙_}
+use mathlib.Core.Bool.{Bool, true, false, _&&_, _||_, not, false≢true}
 use mathlib.Core.List.{List}
 use Prim.Native.Nat.{ℕ, _+_, _<_, _≤_}
 use native.Mathlib.Omega.{arith}
 use native.Mathlib.Decide.{decLt}
-use lib.Dec.{eqb}
-use borrow.Author.Tests.{lt-ltb, le-ltb, lt-leb, leb-false, eqb-true, eq-eqb, ne-eqb, not-true, not-false}
+use lib.Dec.{eqb, leb}
+use lib.ListN.{getD}
+use borrow.Author.Tests.{lt-ltb, le-ltb, le-leb, lt-leb, leb-false, eqb-true, eq-eqb, ne-eqb, not-true, not-false}
 use Rattle.words.specs.Small.{isNone, any, someBelow}
 use Rattle.words.specs.Sets.{has}
 use Rattle.words.specs.Refusals.{firstOf}
-use Rattle.words.proofs.Bools.{bool-eq, and-both, and-make, and-left, or-none, or-false}
+use Rattle.words.proofs.Bools.{bool-eq, and-both, and-make, and-left, and-right, or-left, or-none, or-nothing, or-false}
 use Rattle.words.proofs.Sets.{has-zero}
 use Rattle.cases.specs.declared.Case.{Case}
-use Rattle.rules.specs.Kinds.{reading}
-use Rattle.rules.specs.State.{State, Action, kindOf, valueOf}
+use Rattle.cases.specs.declared.Instr.{Instr}
+use Rattle.cases.specs.declared.Instr.the-variants.{Empty, Read, Write, Local, Branch, Goto, Acquire, Release}
+use Rattle.rules.specs.Kinds.{kind, reading, reads}
+use Rattle.rules.specs.State.{Name, State, Action, kindOf, valueOf}
 use Rattle.rules.specs.Issue.{issueRefusals}
 use Rattle.rules.specs.Commit.{visible, commitRefusals}
 use Rattle.rules.specs.Step.{issue, commit, stepCode}
 use Rattle.rules.proofs.Accepted.{CanCommit, can-issue, can-commit, commit-ok}
 use Rattle.orders.specs.Rows.{SetOf}
 use Rattle.machine.specs.declared.Entry.{Entry}
-use Rattle.machine.specs.Shown.{Acts}
-use Rattle.machine.proofs.Entries.{action-out}
-use Rattle.committing.specs.Committed.{holding}
+use Rattle.machine.specs.declared.Machine.{Machine}
+use Rattle.machine.specs.Word.{entryOf}
+use Rattle.machine.specs.Shown.{nameOf, inputsOf, optionOf, shownEntry, shown, Acts}
+use Rattle.machine.specs.Valid.{ValidEntry, Valid}
+use Rattle.machine.proofs.Entries.{none-option, action-at, action-out}
+use Rattle.sights.specs.Sights.{holding}
 use Rattle.spending.specs.Words.{opens}
-use Rattle.choices.specs.Opening.{queuedRead, readyRead}
+use Rattle.choices.specs.Given.{EntryIn, EntriesIn, ArraysIn}
+use Rattle.choices.specs.Opening.{queuedRead, readyRead, Queued, FirstOf}
+use Rattle.choices.proofs.Queued.{left-out}
 
 never : (b : Bool) → (b ≡ true → ⊥) → b ≡ false
 never true h = absurd (h refl)
@@ -34,18 +42,112 @@ never false h = refl
 refused : (n : ℕ) → (n ≡ 0 → ⊥) → false ≡ eqb n 0
 refused n h = sym (ne-eqb n 0 h)
 
-module _ (c : Case) (s : State) (k : ℕ) (b : Bool) (q : b ≡ queuedRead (c .procs) (s .actions k)) where
-  pub ready-shut : not b ≡ true → false ≡ readyRead c s k
-  ready-shut h = sym (and-left (queuedRead (c .procs) (s .actions k)) _ (sym q ∙ not-true b h))
+-- a set of numbers below n is one of those below r if none between passes
+set-over : (P : ℕ → Bool) (n r x : ℕ) → n ≤ r → ((i : ℕ) → n ≤ i → i < r → P i ≡ false) → SetOf n P x → SetOf r P x
+set-over P n r x h f S e =
+    elim (decLt e n) [
+      | yes a ↦ S e ∙ rw (lt-ltb e n a, lt-ltb e r (omega arith))
+      | no a ↦
+          S e
+          ∙ rw (le-ltb e n (omega arith))
+          (elim (decLt e r) [
+            | yes b ↦ rw (lt-ltb e r b) (sym (f e (omega arith) b))
+            | no b ↦ rw (le-ltb e r (omega arith))
+          ])
+    ]
 
-  pub ready-is : (x y : Bool) → not b ≡ false → x ≡ someBelow k (λ j. holding (s .actions k .proc) 1 (s .actions k .loc) (s .actions j)) → y ≡ any (λ n. isNone (valueOf s n)) (s .actions k .inputs) → not (x || y) ≡ readyRead c s k
-  ready-is x y h u v = λ j. and-yes j && not (u j || v j)
-    where
-      and-yes : true ≡ queuedRead (c .procs) (s .actions k)
-      and-yes = sym (not-false b h) ∙ q
+-- the test of a queued read, of an entry
+
+queued-is : (k q : ℕ) (d : Bool) (v : ℕ) (z : Bool) → k ≡ q → (eqb k 1 && (not d && not z)) ≡ (reading q && (isNone (optionOf d v) && not z))
+queued-is k q d v z h = λ j. eqb (h j) 1 && (none-option d v j && not z)
+
+other-shut : (a d z : Bool) → (not a || d) ≡ true → (a && (not d && z)) ≡ false
+other-shut true true z h = refl
+other-shut true false z h = absurd (false≢true h)
+other-shut false d z h = refl
+
+other-open : (a d : Bool) → (not a || d) ≡ false → (a ≡ true) × (not d ≡ true)
+other-open true true h = absurd (false≢true (sym h))
+other-open true false h = (refl, refl)
+other-open false d h = absurd (false≢true (sym h))
+
+-- a read has one input
+one-input : (c : Case) (f : Name → Bool) (i : Instr) (x y : ℕ) → kind i ≡ 1 → any f (inputsOf c (reads i) x y) ≡ f (nameOf c x)
+one-input c f Empty x y h = absurd (omega arith)
+one-input c f (Read d a) x y h = or-nothing (f (nameOf c x))
+one-input c f (Write a b) x y h = absurd (omega arith)
+one-input c f (Local d e) x y h = absurd (omega arith)
+one-input c f (Branch a l) x y h = absurd (omega arith)
+one-input c f (Goto l) x y h = absurd (omega arith)
+one-input c f (Acquire a) x y h = absurd (omega arith)
+one-input c f (Release a) x y h = absurd (omega arith)
+
+module _ (c : Case) (s : State) (masks rows sets : List ℕ) (procs : ℕ) (e : Entry) (k : ℕ) (E : EntryIn c s masks rows sets procs e k) (q : ℕ) (same : q ≡ kind (e .instr)) where
+  queue-test : queuedRead (c .procs) (s .actions k) ≡ (eqb q 1 && (not (e .done) && not (leb procs (e .proc))))
+  queue-test = ap₂ queuedRead (E .present) (E .same) ∙ sym (queued-is q (kind (e .instr)) (e .done) (e .result) (leb procs (e .proc)) same)
+
+  pub ready-other : (not (eqb q 1) || e .done) ≡ true → false ≡ readyRead c s k
+  ready-other t = sym (and-left (queuedRead (c .procs) (s .actions k)) _ (queue-test ∙ other-shut (eqb q 1) (e .done) (not (leb procs (e .proc))) t))
+
+  pub ready-absent : procs ≤ e .proc → false ≡ readyRead c s k
+  ready-absent h = sym (and-left (queuedRead (c .procs) (s .actions k)) _ (queue-test ∙ and-right (eqb q 1) _ (and-right (not (e .done)) _ (ap not (le-leb procs (e .proc) h)))))
+
+  module _ (t : (not (eqb q 1) || e .done) ≡ false) (l : e .proc < procs) where
+    is-queued : queuedRead (c .procs) (s .actions k) ≡ true
+    is-queued = let b = other-open (eqb q 1) (e .done) t in queue-test ∙ and-make (eqb q 1) _ (b .0) (and-make (not (e .done)) _ (b .1) (ap not (lt-leb procs (e .proc) l)))
+
+    module _ (p : ℕ) (x : Bool) (w : p ≡ e .proc) (h : x ≡ someBelow k (λ j. holding p 1 (e .loc) (s .actions j))) where
+      is-held : x ≡ someBelow k (λ j. holding (s .actions k .proc) 1 (s .actions k .loc) (s .actions j))
+      is-held = h ∙ ap (λ (n : ℕ). someBelow k (λ j. holding n 1 (e .loc) (s .actions j))) w ∙ ap (λ (a : Action). someBelow k (λ j. holding (a .proc) 1 (a .loc) (s .actions j))) (sym (E .same))
+
+      pub ready-held : x ≡ true → false ≡ readyRead c s k
+      ready-held y = sym (and-right (queuedRead (c .procs) (s .actions k)) _ (ap not (or-left _ _ (sym is-held ∙ y))))
+
+      pub ready-known : (r : Bool) → x ≡ false → r ≡ not (isNone (valueOf s (nameOf c (e .first)))) → r ≡ readyRead c s k
+      ready-known r y g =
+          let b = other-open (eqb q 1) (e .done) t in
+          let i : any (λ n. isNone (valueOf s n)) (s .actions k .inputs) ≡ isNone (valueOf s (nameOf c (e .first))) = ap (λ (a : Action). any (λ n. isNone (valueOf s n)) (a .inputs)) (E .same) ∙ one-input c (λ n. isNone (valueOf s n)) (e .instr) (e .first) (e .second) (sym same ∙ eqb-true q 1 (b .0)) in
+          g ∙ (λ j. sym is-queued j && not ((sym y ∙ is-held) j || sym i j))
 
 pub ready-reads : (c : Case) (s : State) (k : ℕ) → readyRead c s k ≡ true → reading (kindOf (s .actions k)) ≡ true
 ready-reads c s k h = and-both (reading (kindOf (s .actions k))) _ (and-both (queuedRead (c .procs) (s .actions k)) _ h .0) .0
+
+-- what the arrays of a valid machine show
+
+module _ (c : Case) (m : Machine) (v : Valid c m) where
+  pub entries-of : EntriesIn c (shown c m) (c .masks) (m .rows) (m .sets) (c .procs) (m .issued) (m .acts)
+  entries-of = record { presets = refl; present = refl; kept = v .kept; orders = refl; shows = record { count = refl; actions = refl }; entries = v .entries }
+
+  pub arrays-of : ArraysIn c (shown c m) (c .masks) (c .presets) (c .procs) (c .locs) (m .issued) (m .acts) (m .rows) (m .sets) (m .holders)
+  arrays-of =
+      record {
+        starts = record { masks = refl; presets = refl };
+        present = refl;
+        shows = record { count = refl; actions = refl };
+        arrays = record { entries = v .entries; kept = v .kept; orders = refl; locks = refl; present = refl };
+      }
+
+pub arrays-entries : (c : Case) (s : State) (masks presets : List ℕ) (procs locs n : ℕ) (acts rows sets holders : List ℕ) → ArraysIn c s masks presets procs locs n acts rows sets holders → EntriesIn c s masks rows sets procs n acts
+arrays-entries c s masks presets procs locs n acts rows sets holders E = record { presets = E .starts .masks; present = E .present; kept = E .arrays .kept; orders = E .arrays .orders; shows = E .shows; entries = E .arrays .entries }
+
+-- one of the words that show a state
+pub entry-in : (c : Case) (s : State) (masks rows sets : List ℕ) (procs n : ℕ) (acts : List ℕ) → EntriesIn c s masks rows sets procs n acts → n ≤ 48 → (k : ℕ) → k < n → (e : Entry) → e ≡ entryOf (getD acts k 0) → EntryIn c s masks rows sets procs e k
+entry-in c s masks rows sets procs n acts E h k l e q =
+    record {
+      presets = E .presets;
+      present = E .present;
+      kept = E .kept;
+      orders = E .orders;
+      low = omega (arith, E .shows .count);
+      ends = λ j g. action-out c n acts s (E .shows) j (omega (arith, E .shows .count));
+      there = omega (arith, E .shows .count);
+      valid = subst (ValidEntry c) (sym q) (E .entries k l);
+      same = action-at c n acts s (E .shows) k l ∙ ap (shownEntry c) (sym q);
+    }
+
+-- the processor of one of the words that show a state
+pub proc-at : (c : Case) (n : ℕ) (acts : List ℕ) (s : State) → Acts c n acts s → (k : ℕ) → k < n → (e : Entry) → e ≡ entryOf (getD acts k 0) → e .proc ≡ s .actions k .proc
+proc-at c n acts s A k l e q = ap (λ (x : Entry). x .proc) q ∙ sym (ap (λ (a : Action). a .proc) (action-at c n acts s A k l))
 
 module _ (c : Case) (s : State) where
   -- reads
@@ -108,18 +210,22 @@ module _ (c : Case) (s : State) where
     pub opens-accepts : opens c s k e ≡ true → (reading (kindOf self) ≡ true) × (stepCode c s (commit (self .proc) k e) ≡ 0)
     opens-accepts h = let b = and-both (reading (kindOf self)) _ (sym opens-read ∙ h) in (b .0, eqb-true _ 0 (b .1))
 
-    pub read-past : (acts : List Entry) → Acts c (s .count) acts s → s .count ≤ k → has 0 e ≡ opens c s k e
-    read-past acts A h = has-zero e ∙ sym (opens-read ∙ and-left (reading (kindOf self)) _ (rw (action-out c (s .count) acts s A k h)))
+    pub read-past : (n : ℕ) (acts : List ℕ) → Acts c n acts s → n ≤ k → has 0 e ≡ opens c s k e
+    read-past n acts A h = has-zero e ∙ sym (opens-read ∙ and-left (reading (kindOf self)) _ (rw (action-out c n acts s A k h)))
 
   -- commits of other actions
 
-  pub lone-read : (k q : ℕ) → q ≡ kindOf (s .actions k) → q ≡ 1 → false ≡ opens c s 48 k
+  pub lone-other : (k : ℕ) (b : Bool) → not (reading (kindOf (s .actions k))) ≡ true → b ≡ eqb (stepCode c s (commit (s .actions k .proc) k 0)) 0 → b ≡ opens c s 48 k
   unfolding opens
-  lone-read k q h e = sym (and-left (not (reading (kindOf (s .actions k)))) _ (ap not (eq-eqb (kindOf (s .actions k)) 1 (sym h ∙ e))))
+  lone-other k b n e = e ∙ rw (not-true (reading (kindOf (s .actions k))) n)
 
-  pub lone-other : (k q : ℕ) (b : Bool) → q ≡ kindOf (s .actions k) → (q ≡ 1 → ⊥) → b ≡ eqb (stepCode c s (commit (s .actions k .proc) k 0)) 0 → b ≡ opens c s 48 k
+  lone-shut : c .procs ≤ 4 → (x : ℕ) → Queued s (λ q. not (reading q)) x → (k : ℕ) → has x k ≡ false → opens c s 48 k ≡ false
   unfolding opens
-  lone-other k q b h n e = e ∙ rw (ne-eqb (kindOf (s .actions k)) 1 (λ z. n (h ∙ z)))
+  lone-shut few x Q k h = never (opens c s 48 k) (λ y. let b = and-both (not (reading (kindOf (s .actions k)))) _ y in left-out c s few (λ q. not (reading q)) x Q k 0 (b .0) h (eqb-true _ 0 (b .1)))
+
+  -- up to the next that is queued
+  pub lone-over : c .procs ≤ 4 → (x n end r items : ℕ) → Queued s (λ q. not (reading q)) x → FirstOf x n end r → SetOf n (opens c s 48) items → SetOf r (opens c s 48) items
+  lone-over few x n end r items Q F = set-over (opens c s 48) n r items (F .from) (λ i a b. lone-shut few x Q i (F .skipped i a b))
 
   pub lone-accepts : (e : ℕ) → opens c s 48 e ≡ true → stepCode c s (commit (s .actions e .proc) e 0) ≡ 0
   unfolding opens

@@ -7,30 +7,14 @@ use lib.Dec.{eqb, leb}
 use Rattle.words.specs.Small.{isNone, any, someBelow}
 use Rattle.words.specs.Sets.{has}
 use Rattle.cases.specs.declared.Case.{Case}
-use Rattle.rules.specs.Kinds.{reading, writing}
-use Rattle.rules.specs.Order.{Order}
-use Rattle.rules.specs.State.{State, Action, kindOf, valueOf, itemValue}
-use Rattle.rules.specs.Commit.{writes}
+use Rattle.rules.specs.Kinds.{reading}
+use Rattle.rules.specs.State.{State, Action, kindOf, waiting, valueOf}
 use Rattle.rules.specs.Step.{commit, stepCode}
 use Rattle.sure.specs.Sure.{sureKind}
 use Rattle.sure.specs.Quiet.{pending}
 use Rattle.sure.specs.Dead.{DeadRead}
-use Rattle.machine.specs.declared.Entry.{Entry}
-use Rattle.machine.specs.declared.Machine.{Machine}
-use Rattle.committing.specs.Committed.{holding}
+use Rattle.sights.specs.Sights.{holding}
 use Rattle.spending.specs.Words.{keyAt, opens, spentBy}
-
--- The action is a write to location l.
-abbrev pub writeTo : ℕ → Action → Bool
-writeTo l a = writing (kindOf a) && eqb (a .loc) l
-
--- The write items of location l that have their value.
-abbrev pub givenTo : Case → State → ℕ → ℕ → Bool
-givenTo c s l e = writes s l e && not (isNone (itemValue c s e))
-
--- The mask has what stands in R before an item below n that passes the test P and stands before item i.
-abbrev pub Covers : Order → ℕ → (ℕ → Bool) → ℕ → ℕ → Type 0
-Covers R n P i mask = (a : ℕ) → has mask a ≡ someBelow n (λ w. P w && (R a w && R w i))
 
 -- A queued read of a processor below `procs`.
 abbrev pub queuedRead : ℕ → Action → Bool
@@ -42,9 +26,27 @@ readyRead c s k =
     let a = s .actions k in
     queuedRead (c .procs) a && not (someBelow k (λ j. holding (a .proc) 1 (a .loc) (s .actions j)) || any (λ n. isNone (valueOf s n)) (a .inputs))
 
--- The machine of these arrays.
-abbrev pub machineOf : ℕ → List ℕ → List ℕ → List ℕ → List Entry → List ℕ → Machine
-machineOf issued places names holders acts rows = record { issued = issued; places = places; names = names; holders = holders; acts = acts; rows = rows }
+-- The action is in the queue of a processor that a case can have.
+abbrev pub inQueue : Action → Bool
+inQueue a = someBelow 4 (λ p. waiting p a)
+
+-- Of the issued actions, the set has those that are queued and of a kind that passes the test.
+abbrev pub Queued : State → (ℕ → Bool) → ℕ → Type 0
+Queued s P x = (k : ℕ) → k < s .count → has x k ≡ (inQueue (s .actions k) && P (kindOf (s .actions k)))
+
+-- The first number of the set from k on, below `end`, else `end`.
+pub record FirstOf (x k end r : ℕ) : Type 0 where
+  pub from : k ≤ r
+  pub upto : r ≤ end
+  pub skipped : (i : ℕ) → k ≤ i → i < r → has x i ≡ false
+  pub found : r < end → has x r ≡ true
+
+-- The words of the positions from j on, before r, are those of actions that are not in the set.
+pub record Readless (reads j to r : ℕ) : Type 0 where
+  pub from : j ≤ r
+  pub upto : r ≤ to
+  pub low : (i : ℕ) → j ≤ i → i < r → i / 64 < 48
+  pub skipped : (i : ℕ) → j ≤ i → i < r → has reads (i / 64) ≡ false
 
 -- The first position from `at` on, before `end`, whose bit of the word is set and that is not spent, else `end`.
 pub record FirstFresh (word : ℕ) (now : List ℕ) (at end j : ℕ) : Type 0 where

@@ -4,31 +4,31 @@ use cases::Instr;
 use machine::Entry;
 use machine::Machine;
 ghost use mathlib.Core.Path.{_≡_};
-ghost use mathlib.Core.Bool.{Bool, true, _&&_, not, cond};
+ghost use mathlib.Core.Bool.{true, not, cond};
+ghost use mathlib.Core.List.{List};
 ghost use Prim.Native.Nat.{ℕ, _+_, _/_, _%_, _≤_, _<_};
 ghost use lib.Dec.{eqb, ltb};
 ghost use lib.ListN.{length, getD};
-ghost use Rattle.words.specs.Small.{isNone, someBelow};
+ghost use Rattle.words.specs.Small.{someBelow};
 ghost use Rattle.words.specs.Sets.{has as inSet};
 ghost use Rattle.cases.specs.declared.Case.{Case as TheCase};
 ghost use Rattle.cases.specs.Case.{countOf, instrAt};
 ghost use Rattle.rules.specs.Kinds.{reading};
-ghost use Rattle.rules.specs.State.{State, kindOf};
-ghost use Rattle.rules.specs.Commit.{writes, visible};
+ghost use Rattle.rules.specs.State.{State};
 ghost use Rattle.rules.specs.Step.{commit, stepCode, after};
-ghost use Rattle.sure.specs.Sure.{backward, forward as isForward};
+ghost use Rattle.sure.specs.Sure.{backward, forward as isForward, sureKind};
 ghost use Rattle.sure.specs.Quiet.{ended as hasEnded, pending};
 ghost use Rattle.sure.specs.Spent.{stepBy};
-ghost use Rattle.oneorder.specs.OneOrder.{standsIn};
-ghost use Rattle.orders.specs.Rows.{orderOf, SetOf};
-ghost use Rattle.machine.specs.Shown.{holderOf, placeOf, namesOf, shownEntry, shown, ordersOf, Acts};
+ghost use Rattle.orders.specs.Rows.{SetOf};
+ghost use Rattle.machine.specs.Shown.{placeOf, namesOf, shown, Acts};
 ghost use Rattle.machine.specs.Fit.{Fit};
+ghost use Rattle.machine.specs.Kept.{Kept};
 ghost use Rattle.machine.specs.Valid.{Valid};
 ghost use Rattle.machine.specs.Given.{Showing};
 ghost use Rattle.spending.specs.Words.{keyAt, opens};
 ghost use Rattle.choices.specs.Choice.{SureAt, QuietAt, NextAt};
-ghost use Rattle.choices.specs.Opening.{writeTo, givenTo, Covers, queuedRead, readyRead, machineOf, FirstFresh, SureCommit, DeadAt, SettledRead};
-ghost use Rattle.choices.specs.Given.{Turning, Ending, At, Of, Entered, EnteredAt, Committing, CommittingOne, Naming, Word, Span, Scanning, Going, Taking};
+ghost use Rattle.choices.specs.Opening.{readyRead, inQueue, Queued, FirstOf, Readless, FirstFresh, SureCommit, DeadAt, SettledRead};
+ghost use Rattle.choices.specs.Given.{Turning, Ending, OfEntry, EntryIn, Entered, EntriesIn, Committing, CommittingOne, ArraysIn, Naming, Word, Upto, Span, Scanning, Going, Taking};
 
 // Whether the instruction, at a place, may lead back to that place or before it.
 fn leads_back(i: Instr, place: usize) -> bool
@@ -73,196 +73,158 @@ pub fn forward(c: Case) -> bool
     !found
 }
 
-// Whether the entry is a write to location l that has its value.
-fn given_at(e: Entry, l: usize) -> bool
-    ensures { λ r. ⌜ ((c : TheCase) → r ≡ (writeTo l (shownEntry c e) && not (isNone (shownEntry c e .result)))) ⌝ }
-{
-    let w = committing::writes_at(e, l);
-    w & e.done
-}
-
-// The write items of location l.
-fn write_items(acts: [Entry; 48], issued: usize, l: usize) -> u64
-    requires { ⌜ At issued acts l ⌝ }
-    ensures { λ r. ⌜ ((c : TheCase) (s : State) → Acts c issued acts s → SetOf (8 + issued) (writes s l) r) ⌝ }
-{
-    let mut items = words::one(l);
-    let mut k: usize = 0;
-    while k < issued {
-        let e = acts[k];
-        let test = committing::writes_at(e, l);
-        items = orders::with(items, 8 + k, test);
-        k += 1;
-    }
-    items
-}
-
-// The write items of location l that have their value.
-fn given_items(acts: [Entry; 48], issued: usize, l: usize) -> u64
-    requires { ⌜ At issued acts l ⌝ }
-    ensures { λ r. ⌜ ((c : TheCase) (s : State) → Acts c issued acts s → SetOf (8 + issued) (givenTo c s l) r) ⌝ }
-{
-    let mut items = words::one(l);
-    let mut k: usize = 0;
-    while k < issued {
-        let e = acts[k];
-        let test = given_at(e, l);
-        items = orders::with(items, 8 + k, test);
-        k += 1;
-    }
-    items
-}
-
-// What stands before item w, where the test passes, else nothing.
-fn row_if(rows: &[u64; 56], w: usize, test: bool) -> u64
-    requires { ⌜ w < 56 ⌝ }
-    ensures { λ r. ⌜ ((a : ℕ) → inSet r a ≡ (test && orderOf (now (rows .entry)) a w)) ⌝ }
-{
-    if test {
-        return rows[w];
-    }
-    0
-}
-
-// What stands before an item of a set, all below n, that stands before item i.
-fn covered(rows: &[u64; 56], items: u64, n: usize, i: usize) -> u64
-    requires { ⌜ n ≤ 56 ⌝ }
-    ensures { λ r. ⌜ ((P : ℕ → Bool) → SetOf n P items → Covers (orderOf (now (rows .entry))) n P i r) ⌝ }
-{
-    let mut mask: u64 = 0;
-    let mut w: usize = 0;
-    while w < n {
-        let inside = words::has(items, w);
-        let near = orders::before(rows, w, i);
-        let more = row_if(rows, w, inside & near);
-        mask = more | mask;
-        w += 1;
-    }
-    mask
-}
-
-// The items of a set, all below n, that are not gone and do not stand after item i.
-fn uncovered(rows: &[u64; 56], items: u64, gone: u64, n: usize, i: usize) -> u64
-    requires { ⌜ n ≤ 56 ⌝ }
-    ensures { λ r. ⌜ SetOf n (λ e. inSet items e && not (inSet gone e) && not (orderOf (now (rows .entry)) i e)) r ⌝ }
-{
-    let mut seen: u64 = 0;
-    let mut e: usize = 0;
-    while e < n {
-        let inside = words::has(items, e);
-        let hidden = words::has(gone, e);
-        let late = orders::before(rows, i, e);
-        seen = orders::with(seen, e, (inside & !hidden) & !late);
-        e += 1;
-    }
-    seen
-}
-
-// The items that are visible to the read item i of location l.
-fn visible_items(rows: &[u64; 56], acts: [Entry; 48], issued: usize, l: usize, i: usize) -> u64
-    requires { ⌜ At issued acts l ⌝ }
-    ensures { λ r. ⌜ ((c : TheCase) (s : State) → Acts c issued acts s → s .orders ≡ ordersOf c (s .actions) (now (rows .entry)) → l < c .locs → standsIn (s .actions) l i ≡ true → (e : ℕ) → inSet r e ≡ visible c s l i e) ⌝ }
-{
-    let items = write_items(acts, issued, l);
-    let given = given_items(acts, issued, l);
-    let gone = covered(rows, items, 8 + issued, i);
-    uncovered(rows, given, gone, 8 + issued, i)
-}
-
-// Whether the entry is a queued read of a present processor.
-fn read_queued(e: Entry, procs: u8) -> bool
-    ensures { λ r. ⌜ ((c : TheCase) → r ≡ queuedRead procs (shownEntry c e)) ⌝ }
+// Whether the entry, action k, is a read that may be committed from every visible item.
+fn read_ready<'a>(masks: &'a [u8; 4], sets: &'a [u64; 21], procs: u8, e: Entry, k: usize) -> bool
+    requires { ⌜ OfEntry procs e k ⌝ }
+    ensures { λ r. ⌜ ((c : TheCase) (s : State) (rows : List ℕ) → EntryIn c s (now (masks .entry)) rows (now (sets .entry)) procs e k → r ≡ readyRead c s k) ⌝ }
 {
     let i = e.instr;
-    let k = rules::kind_of(i);
-    (k == 1) & (!e.done & !(procs <= e.proc))
-}
-
-// Whether action k is a read that may be committed from every visible item.
-fn read_ready(c: Case, acts: [Entry; 48], issued: usize, k: usize) -> bool
-    requires { ⌜ Of issued acts k ⌝ }
-    ensures { λ r. ⌜ ((s : State) → Acts c issued acts s → r ≡ readyRead c s k) ⌝ }
-{
-    let e = acts[k];
-    if !read_queued(e, c.procs) {
+    let q = rules::kind_of(i);
+    if (q != 1) | e.done {
         return false;
     }
     let p = words::wide(e.proc);
-    let h = committing::held(acts, k, p, 1, e.loc);
-    let u = committing::unready(c, acts, issued, e);
-    !(h | u)
+    if words::wide(procs) <= p {
+        return false;
+    }
+    if sights::held(sets, p, k, 1, e.loc) {
+        return false;
+    }
+    sights::known(masks, sets, e.first)
 }
 
-// The items that the commit of read k may name; none of another action.
-fn sources(c: Case, rows: &[u64; 56], acts: [Entry; 48], issued: usize, k: usize) -> u64
-    requires { ⌜ EnteredAt c issued acts k ⌝ }
-    ensures { λ r. ⌜ ((s : State) → Acts c issued acts s → s .orders ≡ ordersOf c (s .actions) (now (rows .entry)) → (e : ℕ) → inSet r e ≡ opens c s k e) ⌝ }
+// The items that the commit of the entry, read k, may name; none of another action.
+fn sources<'a>(
+    masks: &'a [u8; 4],
+    rows: &'a [u64; 56],
+    sets: &'a [u64; 21],
+    procs: u8,
+    e: Entry,
+    k: usize,
+) -> u64
+    requires { ⌜ OfEntry procs e k ⌝ }
+    ensures { λ r. ⌜ ((c : TheCase) (s : State) → EntryIn c s (now (masks .entry)) (now (rows .entry)) (now (sets .entry)) procs e k → (i : ℕ) → inSet r i ≡ opens c s k i) ⌝ }
 {
-    if !read_ready(c, acts, issued, k) {
+    if !read_ready(masks, sets, procs, e, k) {
         return 0;
     }
-    let e = acts[k];
     let l = words::wide(e.loc);
-    visible_items(rows, acts, issued, l, 8 + k)
+    sights::visible_items(rows, sets, l, 8 + k)
+}
+
+// The queued items.
+fn queued_items(sets: &[u64; 21]) -> u64
+    ensures { λ r. ⌜ ((c : TheCase) (s : State) → Kept c s (now (sets .entry)) → (k : ℕ) → k < s .count → inSet r (8 + k) ≡ inQueue (s .actions k)) ⌝ }
+{
+    sets[19] | (sets[18] | (sets[17] | sets[16]))
+}
+
+// The queued reads.
+fn queued_reads(sets: &[u64; 21]) -> u64
+    ensures { λ r. ⌜ ((c : TheCase) (s : State) → Kept c s (now (sets .entry)) → Queued s reading r) ⌝ }
+{
+    let items = queued_items(sets);
+    (items & sets[9]) >> 8
+}
+
+// The queued actions that are no reads.
+fn queued_others(sets: &[u64; 21]) -> u64
+    ensures { λ r. ⌜ ((c : TheCase) (s : State) → Kept c s (now (sets .entry)) → Queued s (λ q. not (reading q)) r) ⌝ }
+{
+    let items = queued_items(sets);
+    orders::minus(items, sets[9]) >> 8
+}
+
+// The queued actions of a sure kind: neither reads nor acquires.
+fn queued_sure(sets: &[u64; 21]) -> u64
+    ensures { λ r. ⌜ ((c : TheCase) (s : State) → Kept c s (now (sets .entry)) → Queued s sureKind r) ⌝ }
+{
+    let items = queued_items(sets);
+    orders::minus(items, sets[9] | sets[14]) >> 8
+}
+
+// The first number of the set from k on, below `end`, else `end`.
+fn first_of(word: u64, k: usize, end: usize) -> usize
+    requires { ⌜ Upto k end ⌝ }
+    ensures { λ r. ⌜ FirstOf word k end r ⌝ }
+{
+    let r = k + sights::lowest(word >> k);
+    if end <= r {
+        return end;
+    }
+    r
 }
 
 // Whether the commit of action k, from item 0, is accepted.
 fn may_commit<'a>(
-    c: Case,
+    masks: &'a [u8; 4],
+    presets: &'a [u16; 32],
+    acts: &'a [u64; 48],
     rows: &'a [u64; 56],
+    sets: &'a [u64; 21],
     holders: &'a [u8; 8],
-    acts: [Entry; 48],
+    procs: u8,
+    locs: u8,
     issued: usize,
     k: usize,
 ) -> bool
-    requires { ⌜ CommittingOne c issued acts (now holders) k ⌝ }
-    ensures { λ r. ⌜ ((s : State) → Acts c issued acts s → s .orders ≡ ordersOf c (s .actions) (now (rows .entry)) → s .holders ≡ (λ l. holderOf (getD (now (holders .entry)) l 0)) → r ≡ eqb (stepCode c s (commit (s .actions k .proc) k 0)) 0) ⌝ }
+    requires { ⌜ CommittingOne issued procs (now holders) k ⌝ }
+    ensures { λ r. ⌜ ((c : TheCase) (s : State) → ArraysIn c s (now (masks .entry)) (now (presets .entry)) procs locs issued (now (acts .entry)) (now (rows .entry)) (now (sets .entry)) (now (holders .entry)) → r ≡ eqb (stepCode c s (commit (s .actions k .proc) k 0)) 0) ⌝ }
 {
-    let e = acts[k];
+    let e = machine::entry_at(acts, k);
     let p = words::wide(e.proc);
-    if words::wide(c.procs) <= p {
+    if words::wide(procs) <= p {
         return false;
     }
-    committing::commit_code(c, acts, rows, holders, issued, p, k, 0) == 0
-}
-
-// Whether action k is no read and its commit is accepted.
-fn lone_open<'a>(
-    c: Case,
-    rows: &'a [u64; 56],
-    holders: &'a [u8; 8],
-    acts: [Entry; 48],
-    issued: usize,
-    k: usize,
-) -> bool
-    requires { ⌜ CommittingOne c issued acts (now holders) k ⌝ }
-    ensures { λ r. ⌜ ((s : State) → Acts c issued acts s → s .orders ≡ ordersOf c (s .actions) (now (rows .entry)) → s .holders ≡ (λ l. holderOf (getD (now (holders .entry)) l 0)) → r ≡ opens c s 48 k) ⌝ }
-{
-    let e = acts[k];
-    let i = e.instr;
-    if rules::kind_of(i) == 1 {
-        return false;
-    }
-    may_commit(c, rows, holders, acts, issued, k)
+    committing::commit_code(
+        masks,
+        presets,
+        acts,
+        rows,
+        sets,
+        holders,
+        locs,
+        issued,
+        p,
+        k,
+        0,
+    )
+        == 0
 }
 
 // The actions that are no reads and whose commits are accepted.
 fn commits<'a>(
-    c: Case,
+    masks: &'a [u8; 4],
+    presets: &'a [u16; 32],
+    acts: &'a [u64; 48],
     rows: &'a [u64; 56],
+    sets: &'a [u64; 21],
     holders: &'a [u8; 8],
-    acts: [Entry; 48],
+    procs: u8,
+    locs: u8,
     issued: usize,
 ) -> u64
-    requires { ⌜ Committing c issued acts (now holders) ⌝ }
-    ensures { λ r. ⌜ ((s : State) → Acts c issued acts s → s .orders ≡ ordersOf c (s .actions) (now (rows .entry)) → s .holders ≡ (λ l. holderOf (getD (now (holders .entry)) l 0)) → SetOf issued (opens c s 48) r) ⌝ }
+    requires { ⌜ Committing issued procs (now holders) ⌝ }
+    ensures { λ r. ⌜ ((c : TheCase) (s : State) → ArraysIn c s (now (masks .entry)) (now (presets .entry)) procs locs issued (now (acts .entry)) (now (rows .entry)) (now (sets .entry)) (now (holders .entry)) → SetOf issued (opens c s 48) r) ⌝ }
 {
+    let others = queued_others(sets);
     let mut items: u64 = 0;
-    let mut k: usize = 0;
+    let mut k = first_of(others, 0, issued);
     while k < issued {
-        let test = lone_open(c, rows, holders, acts, issued, k);
+        let test = may_commit(
+            masks,
+            presets,
+            acts,
+            rows,
+            sets,
+            holders,
+            procs,
+            locs,
+            issued,
+            k,
+        );
         items = orders::with(items, k, test);
-        k += 1;
+        k = first_of(others, k + 1, issued);
     }
     items
 }
@@ -272,12 +234,12 @@ fn may_issue<'a>(
     c: Case,
     places: &'a [u8; 4],
     names: &'a [u8; 32],
-    acts: [Entry; 48],
+    acts: &'a [u64; 48],
     issued: usize,
     p: usize,
 ) -> bool
-    requires { ⌜ Fit c × (issued ≤ 48) × (length acts ≡ 48) × (length (now names) ≡ 32) × (p < 4) ⌝ }
-    ensures { λ r. ⌜ ((s : State) → Acts c issued acts s → s .places ≡ (λ q. placeOf (getD (now (places .entry)) q 0)) → s .names ≡ namesOf c (now (names .entry)) → r ≡ opens c s 49 p) ⌝ }
+    requires { ⌜ Fit c × (issued ≤ 48) × (length (now names) ≡ 32) × (p < 4) ⌝ }
+    ensures { λ r. ⌜ ((s : State) → Acts c issued (now (acts .entry)) s → s .places ≡ (λ q. placeOf (getD (now (places .entry)) q 0)) → s .names ≡ namesOf c (now (names .entry)) → r ≡ opens c s 49 p) ⌝ }
 {
     if words::wide(c.procs) <= p {
         return false;
@@ -290,11 +252,11 @@ fn issues<'a>(
     c: Case,
     places: &'a [u8; 4],
     names: &'a [u8; 32],
-    acts: [Entry; 48],
+    acts: &'a [u64; 48],
     issued: usize,
 ) -> u64
-    requires { ⌜ Fit c × (issued ≤ 48) × (length acts ≡ 48) × (length (now names) ≡ 32) ⌝ }
-    ensures { λ r. ⌜ ((s : State) → Acts c issued acts s → s .places ≡ (λ q. placeOf (getD (now (places .entry)) q 0)) → s .names ≡ namesOf c (now (names .entry)) → SetOf 4 (opens c s 49) r) ⌝ }
+    requires { ⌜ Fit c × (issued ≤ 48) × (length (now names) ≡ 32) ⌝ }
+    ensures { λ r. ⌜ ((s : State) → Acts c issued (now (acts .entry)) s → s .places ≡ (λ q. placeOf (getD (now (places .entry)) q 0)) → s .names ≡ namesOf c (now (names .entry)) → SetOf 4 (opens c s 49) r) ⌝ }
 {
     let mut items: u64 = 0;
     let mut p: usize = 0;
@@ -306,30 +268,40 @@ fn issues<'a>(
     items
 }
 
-// The accepted steps of word w.
+// The accepted steps of word w: a read's, or those of the other commits.
 fn open_word<'a>(
-    c: Case,
-    places: &'a [u8; 4],
-    names: &'a [u8; 32],
-    holders: &'a [u8; 8],
+    masks: &'a [u8; 4],
+    presets: &'a [u16; 32],
+    acts: &'a [u64; 48],
     rows: &'a [u64; 56],
-    acts: [Entry; 48],
+    sets: &'a [u64; 21],
+    holders: &'a [u8; 8],
+    procs: u8,
+    locs: u8,
     issued: usize,
     w: usize,
 ) -> u64
-    requires { ⌜ Word c (machineOf issued (now places) (now names) (now holders) acts (now rows)) w ⌝ }
-    ensures { λ r. ⌜ ((e : ℕ) → e < 64 → inSet r e ≡ opens c (shown c (machineOf issued (now (places .entry)) (now (names .entry)) (now (holders .entry)) acts (now (rows .entry)))) w e) ⌝ }
+    requires { ⌜ Word issued procs (now holders) w ⌝ }
+    ensures { λ r. ⌜ ((c : TheCase) (s : State) → ArraysIn c s (now (masks .entry)) (now (presets .entry)) procs locs issued (now (acts .entry)) (now (rows .entry)) (now (sets .entry)) (now (holders .entry)) → (e : ℕ) → e < 64 → inSet r e ≡ opens c s w e) ⌝ }
 {
     if w < 48 {
         if w < issued {
-            return sources(c, rows, acts, issued, w);
+            let e = machine::entry_at(acts, w);
+            return sources(masks, rows, sets, procs, e, w);
         }
         return 0;
     }
-    if w == 48 {
-        return commits(c, rows, holders, acts, issued);
-    }
-    issues(c, places, names, acts, issued)
+    commits(
+        masks,
+        presets,
+        acts,
+        rows,
+        sets,
+        holders,
+        procs,
+        locs,
+        issued,
+    )
 }
 
 // The first position from j on, before `end`, whose bit is set and that is not spent, else `end`.
@@ -364,58 +336,94 @@ fn word_end(j: usize, to: usize) -> usize
     end
 }
 
+// The first position from j on, or `to` before it, whose word is that of a read of the set or has no read.
+fn next_word(reads: u64, j: usize, to: usize) -> usize
+    requires { ⌜ Span j to ⌝ }
+    ensures { λ r. ⌜ Readless reads j to r ⌝ }
+{
+    let w = j / 64;
+    if 48 <= w {
+        return j;
+    }
+    let start = 64 * first_of(reads, w, 48);
+    if start <= j {
+        return j;
+    }
+    if to < start {
+        return to;
+    }
+    start
+}
+
 // The first position from `at` on whose step is accepted and neither spent nor needless, or `to` where there is none before it.
 pub fn next_step(c: Case, m: Machine, spent: &[u64; 50], at: usize, to: usize) -> usize
     requires { ⌜ Scanning c m (now spent) at to ⌝ }
     ensures { λ r. ⌜ NextAt c (shown c m) (now (spent .entry)) at to r ⌝ }
 {
-    let acts = m.acts;
     let issued = m.issued;
-    let mut j = at;
+    let reads = queued_reads(&m.sets);
+    let mut j = next_word(reads, at, to);
     while j < to {
+        if 3136 <= j {
+            let word = issues(c, &m.places, &m.names, &m.acts, issued);
+            return first_fresh(word, spent, j, to);
+        }
         let end = word_end(j, to);
         let word = open_word(
-            c,
-            &m.places,
-            &m.names,
-            &m.holders,
+            &c.masks,
+            &c.presets,
+            &m.acts,
             &m.rows,
-            acts,
+            &m.sets,
+            &m.holders,
+            c.procs,
+            c.locs,
             issued,
             j / 64,
         );
-        let left = needless::unechoed(c, acts, issued, spent, word, j / 64);
+        let left = needless::unechoed(&c.memory, &m.acts, issued, spent, word, j / 64);
         let r = first_fresh(left, spent, j, end);
         if r < end {
             return r;
         }
-        j = end;
+        j = next_word(reads, end, to);
     }
     to
 }
 
 // The first action of a sure kind whose commit is accepted, else 48.
 fn sure_commit<'a>(
-    c: Case,
+    masks: &'a [u8; 4],
+    presets: &'a [u16; 32],
+    acts: &'a [u64; 48],
     rows: &'a [u64; 56],
+    sets: &'a [u64; 21],
     holders: &'a [u8; 8],
-    acts: [Entry; 48],
+    procs: u8,
+    locs: u8,
     issued: usize,
 ) -> usize
-    requires { ⌜ Committing c issued acts (now holders) ⌝ }
-    ensures { λ r. ⌜ ((s : State) → Acts c issued acts s → s .orders ≡ ordersOf c (s .actions) (now (rows .entry)) → s .holders ≡ (λ l. holderOf (getD (now (holders .entry)) l 0)) → SureCommit c s r) ⌝ }
+    requires { ⌜ Committing issued procs (now holders) ⌝ }
+    ensures { λ r. ⌜ ((c : TheCase) (s : State) → ArraysIn c s (now (masks .entry)) (now (presets .entry)) procs locs issued (now (acts .entry)) (now (rows .entry)) (now (sets .entry)) (now (holders .entry)) → SureCommit c s r) ⌝ }
 {
-    let mut k: usize = 0;
+    let sure = queued_sure(sets);
+    let mut k = first_of(sure, 0, issued);
     while k < issued {
-        let e = acts[k];
-        let i = e.instr;
-        let q = rules::kind_of(i);
-        if (q != 1) & (q != 6) {
-            if may_commit(c, rows, holders, acts, issued, k) {
-                return k;
-            }
+        if may_commit(
+            masks,
+            presets,
+            acts,
+            rows,
+            sets,
+            holders,
+            procs,
+            locs,
+            issued,
+            k,
+        ) {
+            return k;
         }
-        k += 1;
+        k = first_of(sure, k + 1, issued);
     }
     48
 }
@@ -425,11 +433,11 @@ fn issuer<'a>(
     c: Case,
     places: &'a [u8; 4],
     names: &'a [u8; 32],
-    acts: [Entry; 48],
+    acts: &'a [u64; 48],
     issued: usize,
 ) -> usize
-    requires { ⌜ Fit c × (issued ≤ 48) × (length acts ≡ 48) × (length (now names) ≡ 32) ⌝ }
-    ensures { λ r. ⌜ ((s : State) → Acts c issued acts s → s .places ≡ (λ q. placeOf (getD (now (places .entry)) q 0)) → s .names ≡ namesOf c (now (names .entry)) → r < 4 → opens c s 49 r ≡ true) ⌝ }
+    requires { ⌜ Fit c × (issued ≤ 48) × (length (now names) ≡ 32) ⌝ }
+    ensures { λ r. ⌜ ((s : State) → Acts c issued (now (acts .entry)) s → s .places ≡ (λ q. placeOf (getD (now (places .entry)) q 0)) → s .names ≡ namesOf c (now (names .entry)) → r < 4 → opens c s 49 r ≡ true) ⌝ }
 {
     let mut p: usize = 0;
     while p < 4 {
@@ -441,53 +449,34 @@ fn issuer<'a>(
     4
 }
 
-// Whether the entry of action k is a read of the set.
-fn read_in(e: Entry, inner: u64, k: usize) -> bool
-    ensures { λ r. ⌜ ((c : TheCase) → r ≡ (reading (kindOf (shownEntry c e)) && inSet inner k)) ⌝ }
-{
-    let i = e.instr;
-    let q = rules::kind_of(i);
-    let h = words::has(inner, k);
-    (q == 1) & h
-}
-
-// The least number of the set, or 64.
-fn lowest(x: u64) -> usize
-    ensures { λ r. ⌜ (r < 64 → inSet x r ≡ true) ⌝ }
-{
-    let mut e: usize = 0;
-    while e < 64 {
-        if words::has(x, e) {
-            return e;
-        }
-        e += 1;
-    }
-    64
-}
-
 // The position of the commit of a dead read from its least source, or 3200 where none is accepted.
 fn first_dead<'a>(
-    c: Case,
+    masks: &'a [u8; 4],
     names: &'a [u8; 32],
     rows: &'a [u64; 56],
-    acts: [Entry; 48],
+    sets: &'a [u64; 21],
+    acts: &'a [u64; 48],
+    procs: u8,
     issued: usize,
 ) -> usize
-    requires { ⌜ Naming c issued acts (now names) ⌝ }
-    ensures { λ r. ⌜ ((s : State) → Acts c issued acts s → s .names ≡ namesOf c (now (names .entry)) → s .orders ≡ ordersOf c (s .actions) (now (rows .entry)) → r < 3200 → DeadAt c s r) ⌝ }
+    requires { ⌜ Naming issued procs (now names) ⌝ }
+    ensures { λ r. ⌜ ((c : TheCase) (s : State) → EntriesIn c s (now (masks .entry)) (now (rows .entry)) (now (sets .entry)) procs issued (now (acts .entry)) → s .names ≡ namesOf c (now (names .entry)) → r < 3200 → DeadAt c s r) ⌝ }
 {
+    let reads = queued_reads(sets);
+    if reads == 0 {
+        return 3200;
+    }
     let inner = needless::ignored(names, acts, issued);
-    let mut k: usize = 0;
+    let mut k = first_of(reads, 0, issued);
     while k < issued {
-        let a = acts[k];
-        if read_in(a, inner, k) {
-            let word = sources(c, rows, acts, issued, k);
-            let e = lowest(word);
+        if words::has(inner, k) {
+            let a = machine::entry_at(acts, k);
+            let e = sights::lowest(sources(masks, rows, sets, procs, a, k));
             if e < 64 {
                 return 64 * k + e;
             }
         }
-        k += 1;
+        k = first_of(reads, k + 1, issued);
     }
     3200
 }
@@ -497,85 +486,101 @@ pub fn sure_step(c: Case, m: Machine, n: usize, ahead: bool, marked: bool) -> us
     requires { ⌜ Going c m n ahead ⌝ }
     ensures { λ r. ⌜ SureAt c marked n (shown c m) r ⌝ }
 {
-    let acts = m.acts;
     let issued = m.issued;
-    let k = sure_commit(c, &m.rows, &m.holders, acts, issued);
+    let k = sure_commit(
+        &c.masks,
+        &c.presets,
+        &m.acts,
+        &m.rows,
+        &m.sets,
+        &m.holders,
+        c.procs,
+        c.locs,
+        issued,
+    );
     if k < 48 {
         return 3072 + k;
     }
     if marked | (ahead | (issued + n <= 48)) {
-        let p = issuer(c, &m.places, &m.names, acts, issued);
+        let p = issuer(c, &m.places, &m.names, &m.acts, issued);
         if p < 4 {
             return 3136 + p;
         }
     }
-    first_dead(c, &m.names, &m.rows, acts, issued)
+    first_dead(
+        &c.masks,
+        &m.names,
+        &m.rows,
+        &m.sets,
+        &m.acts,
+        c.procs,
+        issued,
+    )
 }
 
 // Whether every place counter is at its processor's count.
-fn ended(c: Case, places: &[u8; 4]) -> bool
-    requires { ⌜ Ending c (now places) ⌝ }
-    ensures { λ r. ⌜ ((s : State) → s .places ≡ (λ q. placeOf (getD (now (places .entry)) q 0)) → r ≡ hasEnded c s) ⌝ }
+fn ended<'a>(counts: &'a [u8; 4], places: &'a [u8; 4], procs: u8) -> bool
+    requires { ⌜ procs ≤ 4 ⌝ }
+    ensures { λ r. ⌜ ((c : TheCase) (s : State) → Ending c s (now (counts .entry)) (now (places .entry)) procs → r ≡ hasEnded c s) ⌝ }
 {
-    let top = words::wide(c.procs);
+    let top = words::wide(procs);
     let mut all = true;
     let mut p: usize = 0;
     while p < top {
-        let there = places[p] == c.counts[p];
+        let there = places[p] == counts[p];
         all = all & there;
         p += 1;
     }
     all
 }
 
-// Whether the entry is a queued write to location l.
-fn write_queued(e: Entry, l: usize) -> bool
-    ensures { λ r. ⌜ ((c : TheCase) → r ≡ pending l (shownEntry c e)) ⌝ }
-{
-    let w = committing::writes_at(e, l);
-    !e.done & w
-}
-
 // Whether a write to location l is queued.
-fn write_pending(acts: [Entry; 48], issued: usize, l: usize) -> bool
-    requires { ⌜ (issued ≤ 48) × (length acts ≡ 48) ⌝ }
-    ensures { λ r. ⌜ ((c : TheCase) (s : State) → Acts c issued acts s → r ≡ someBelow (s .count) (λ j. pending l (s .actions j))) ⌝ }
+fn write_pending(sets: &[u64; 21], l: usize) -> bool
+    requires { ⌜ l < 8 ⌝ }
+    ensures { λ r. ⌜ ((c : TheCase) (s : State) → Kept c s (now (sets .entry)) → r ≡ someBelow (s .count) (λ j. pending l (s .actions j))) ⌝ }
 {
-    let mut found = false;
-    let mut k: usize = 0;
-    while k < issued {
-        let e = acts[k];
-        let w = write_queued(e, l);
-        found = w | found;
-        k += 1;
-    }
-    found
+    orders::minus(sets[l], sets[20]) != 0
 }
 
-// Whether read k has a source, and no write to its location is queued.
-fn settled_read(c: Case, rows: &[u64; 56], acts: [Entry; 48], issued: usize, k: usize) -> bool
-    requires { ⌜ EnteredAt c issued acts k ⌝ }
-    ensures { λ r. ⌜ ((s : State) → Acts c issued acts s → s .orders ≡ ordersOf c (s .actions) (now (rows .entry)) → r ≡ true → SettledRead c s k) ⌝ }
+// Whether the entry, read k, has a source, and no write to its location is queued.
+fn settled_read<'a>(
+    masks: &'a [u8; 4],
+    rows: &'a [u64; 56],
+    sets: &'a [u64; 21],
+    procs: u8,
+    e: Entry,
+    k: usize,
+) -> bool
+    requires { ⌜ OfEntry procs e k ⌝ }
+    ensures { λ r. ⌜ ((c : TheCase) (s : State) → EntryIn c s (now (masks .entry)) (now (rows .entry)) (now (sets .entry)) procs e k → r ≡ true → SettledRead c s k) ⌝ }
 {
-    if sources(c, rows, acts, issued, k) == 0 {
+    let l = words::wide(e.loc);
+    if write_pending(sets, l) {
         return false;
     }
-    let e = acts[k];
-    let l = words::wide(e.loc);
-    !write_pending(acts, issued, l)
+    sources(masks, rows, sets, procs, e, k) != 0
 }
 
 // The first read with a source to whose location no write is queued, else 48.
-fn first_settled(c: Case, rows: &[u64; 56], acts: [Entry; 48], issued: usize) -> usize
-    requires { ⌜ Entered c issued acts ⌝ }
-    ensures { λ r. ⌜ (r ≤ 48) × ((s : State) → Acts c issued acts s → s .orders ≡ ordersOf c (s .actions) (now (rows .entry)) → r < 48 → SettledRead c s r) ⌝ }
+fn first_settled<'a>(
+    masks: &'a [u8; 4],
+    rows: &'a [u64; 56],
+    sets: &'a [u64; 21],
+    acts: &'a [u64; 48],
+    procs: u8,
+    issued: usize,
+) -> usize
+    requires { ⌜ Entered issued procs ⌝ }
+    ensures { λ r. ⌜ (r ≤ 48) × ((c : TheCase) (s : State) → EntriesIn c s (now (masks .entry)) (now (rows .entry)) (now (sets .entry)) procs issued (now (acts .entry)) → r < 48 → SettledRead c s r) ⌝ }
 {
-    let mut k: usize = 0;
+    let reads = queued_reads(sets);
+    let mut k = first_of(reads, 0, issued);
     while k < issued {
-        if settled_read(c, rows, acts, issued, k) {
+        let e = machine::entry_at(acts, k);
+        if settled_read(masks, rows, sets, procs, e, k) {
             return k;
         }
-        k += 1;
+        k = first_of(reads, k + 1, issued);
     }
     48
 }
@@ -585,12 +590,11 @@ pub fn quiet_read(c: Case, m: Machine) -> usize
     requires { ⌜ Valid c m ⌝ }
     ensures { λ r. ⌜ QuietAt c (shown c m) r × (r ≤ 48) ⌝ }
 {
-    if !ended(c, &m.places) {
+    if !ended(&c.counts, &m.places, c.procs) {
         return 48;
     }
-    let acts = m.acts;
     let issued = m.issued;
-    first_settled(c, &m.rows, acts, issued)
+    first_settled(&c.masks, &m.rows, &m.sets, &m.acts, c.procs, issued)
 }
 
 // The item that the step at position j names.
@@ -612,7 +616,7 @@ pub fn take(c: Case, m: Machine, j: usize) -> Machine
         return issuing::issue(c, m, j % 64);
     }
     let k = spending::action_at(j);
-    let e = m.acts[k];
+    let e = machine::entry_at(&m.acts, k);
     let p = words::wide(e.proc);
     let src = source_at(j);
     committing::commit(c, m, p, k, src)

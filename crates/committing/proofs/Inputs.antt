@@ -28,6 +28,10 @@ undefined-inputs c f [] x y = refl
 undefined-inputs c f (a ∷ []) x y = refl
 undefined-inputs c f (a ∷ b ∷ more) x y = rw (lt-ltb 0 (suc (suc (length more))) (omega arith), lt-ltb 1 (suc (suc (length more))) (omega arith)) (ap (λ (b : Bool). f (nameOf c x) || b) (sym (or-nothing (f (nameOf c y)))))
 
+pub unknown-is : (b n : Bool) → b ≡ not n → not b ≡ n
+unknown-is b true h = rw h
+unknown-is b false h = rw h
+
 is-holder : (p h : ℕ) → eqb h (p + 1) ≡ is p (holderOf h)
 is-holder p h = ⊎-elim free taken (decide (eqb h 0))
   where

@@ -1,3 +1,4 @@
 pub mod Inputs
 pub mod Refusing
 pub mod Settling
+pub mod Keeping

@@ -1,49 +1,83 @@
 -- The code of a commit. Assumes nothing.
-use mathlib.Core.Path.{_≡_, refl, sym, _∙_, ap}
-use mathlib.Core.Bool.{Bool, true, false, _&&_, not}
+use mathlib.Core.Path.{_≡_, refl, sym, _∙_, ap, subst}
+use mathlib.Core.Logic.{⊎-elim}
+use mathlib.Core.Bool.{Bool, true, false, _&&_, not, false≢true}
 use mathlib.Core.List.{List, [], _∷_}
 use mathlib.Core.Option.{Option, none}
 use Prim.Native.Nat.{ℕ, _+_, _≤_, _<_}
-use lib.Dec.{eqb, ltb}
+use native.Mathlib.Omega.{arith}
+use lib.Dec.{eqb, leb, ltb}
+use lib.ListN.{getD}
 use borrow.Author.Tests.{lt-ltb, le-ltb, eq-eqb, ne-eqb}
-use Rattle.words.specs.Small.{isNone, someBelow}
+use Rattle.words.specs.Small.{orZero}
 use Rattle.words.specs.Refusals.{Refusal, _when_, firstOf}
 use Rattle.words.proofs.First.{First, first, hit, miss}
-use Rattle.words.proofs.Bools.{and-left, and-make, or-left, or-right}
+use Rattle.words.proofs.Bools.{decide, and-left, and-make, or-left, or-right, or-none}
 use Rattle.cases.specs.declared.Case.{Case}
-use Rattle.rules.specs.Kinds.{kind, reading, accesses, syncs}
-use Rattle.rules.specs.State.{State, Action, waiting, itemValue, standsAt}
-use Rattle.rules.specs.Order.{Order}
-use Rattle.rules.specs.Commit.{writes, commitRefusals}
-use Rattle.oneorder.specs.OneOrder.{standsIn, withOrder, visibleOne}
+use Rattle.cases.specs.declared.Instr.{Instr}
+use Rattle.cases.specs.declared.Instr.the-variants.{Empty, Read, Write, Local, Branch, Goto, Acquire, Release}
+use Rattle.rules.specs.Kinds.{kind, reading, accesses, syncs, reads}
+use Rattle.rules.specs.State.{State, Action, start, waiting, valueOf, standsAt}
+use Rattle.rules.specs.Commit.{barred, commitRefusals}
+use Rattle.oneorder.specs.OneOrder.{standsIn}
 use Rattle.oneorder.proofs.OneOrder.{stands-at}
 use Rattle.machine.specs.declared.Entry.{Entry}
-use Rattle.machine.specs.Shown.{optionOf, shownEntry}
+use Rattle.machine.specs.Word.{entryOf}
+use Rattle.machine.specs.Shown.{nameOf, inputsOf, shownEntry, Presets, Acts}
 use Rattle.machine.specs.Valid.{ValidEntry}
+use Rattle.machine.proofs.Entries.{action-at, action-out}
+use Rattle.sights.specs.Sights.{Sight}
+use Rattle.committing.specs.Given.{Arrays, Shows}
 use Rattle.committing.specs.Committed.{restRefusals}
-
-known-some : (known : Bool) (v : ℕ) → known ≡ not (isNone (optionOf known v))
-known-some true v = refl
-known-some false v = refl
-
--- write item u of location l stands after w and before i
-abbrev pub between : State → Order → ℕ → ℕ → ℕ → ℕ → Bool
-between s R l i w u = writes s l u && (R w u && R u i)
-
--- the test of visibility in the order R, from its parts
-pub sees-is : (c : Case) (s : State) (R : Order) (l i w : ℕ) (x k h d : Bool) (v : ℕ)
-    → x ≡ writes s l w → optionOf k v ≡ itemValue c s w → h ≡ someBelow (8 + s .count) (between s R l i w) → d ≡ R i w
-    → (x && k && not h && not d) ≡ visibleOne c (withOrder s R) l i w
-unfolding visibleOne
-sees-is c s R l i w x k h d v hx hv hh hd =
-    let hk = known-some k v ∙ ap (λ (o : Option ℕ). not (isNone o)) hv in
-    λ j. hx j && hk j && not (hh j) && not (hd j)
 
 -- the item of a read stands at its location, which is present
 pub read-stands : (c : Case) (s : State) (e : Entry) (k n : ℕ) → ValidEntry c e → s .actions k ≡ shownEntry c e → n ≡ kind (e .instr) → reading n ≡ true → (e .loc < c .locs) × (standsIn (s .actions) (e .loc) (8 + k) ≡ true)
 read-stands c s e k n v h q r =
     let a : accesses (kind (e .instr)) ≡ true = or-left (eqb (kind (e .instr)) 1) (eqb (kind (e .instr)) 2) (ap (λ (x : ℕ). eqb x 1) (sym q) ∙ r) in
     (v .present a, stands-at (s .actions) (e .loc) k ∙ ap (standsAt (e .loc)) h ∙ or-right (syncs (kind (e .instr))) _ (and-make _ _ a (eq-eqb (e .loc) (e .loc) refl)))
+
+-- what a read sees is asked of the sets and the rows
+pub read-sight : (c : Case) (s : State) (masks rows sets holders : List ℕ) (locs : ℕ) (e : Entry) (k n : ℕ) → Shows c s masks rows sets holders locs e k → n ≡ kind (e .instr) → reading n ≡ true → Sight c s sets rows (e .loc) (8 + k)
+read-sight c s masks rows sets holders locs e k n v q r =
+    let z = read-stands c s e k n (v .entry) (v .action) q r in
+    record { kept = v .names .kept; low = v .low; ends = v .names .ends; orders = v .orders; loc = z .0; stands = z .1 }
+
+-- the location of an entry fits
+pub loc-low : (e : Entry) (w : ℕ) → e ≡ entryOf w → e .loc < 8
+unfolding entryOf
+loc-low e w h = subst (λ (x : Entry). x .loc < 8) (sym h) (omega arith)
+
+-- the arrays of a machine show its entries
+pub shows-at : (c : Case) (n : ℕ) (acts : List ℕ) (s : State) (masks presets rows sets holders : List ℕ) (locs k : ℕ) (e : Entry) → Presets c masks presets → Acts c n acts s → Arrays c s n acts rows sets holders locs → n ≤ 48 → k < n → e ≡ entryOf (getD acts k 0) → Shows c s masks rows sets holders locs e k
+shows-at c n acts s masks presets rows sets holders locs k e q a v m t h =
+    record {
+      names = record { kept = v .kept; ends = λ j d. action-out c n acts s a j (omega (arith, a .count, d)); presets = q .masks };
+      low = omega (arith, a .count, m);
+      orders = v .orders;
+      locks = v .locks;
+      present = v .present;
+      there = omega (arith, a .count, t);
+      action = action-at c n acts s a k t ∙ ap (shownEntry c) (sym h);
+      entry = subst (ValidEntry c) (sym h) (v .entries k t);
+    }
+
+-- where only an acquire or a release has the location x
+
+pub sync-given : (k n x y : ℕ) → (syncs k ≡ true → x ≡ y) → (syncs k && leb n x) ≡ (syncs k && leb n y)
+sync-given k n x y h = ⊎-elim (λ e. rw (h e)) (λ e. rw e) (decide (syncs k))
+
+pub barred-given : (p k x y : ℕ) (f : ℕ → Option ℕ) → (syncs k ≡ true → x ≡ y) → barred p k (f x) ≡ barred p k (f y)
+barred-given p k x y f h = ⊎-elim (λ e. rw (h e)) (λ e. let z = or-none (eqb k 6) (eqb k 7) e in rw (z .0, z .1)) (decide (syncs k))
+
+pub sync-first : (c : Case) (s : State) (m n : ℕ) (i : Instr) → syncs (kind i) ≡ true → orZero (valueOf s (nameOf c m)) ≡ orZero (valueOf s (getD (inputsOf c (reads i) m n) 0 (start none)))
+sync-first c s m n Empty h = absurd (false≢true h)
+sync-first c s m n (Read d a) h = absurd (false≢true h)
+sync-first c s m n (Write a b) h = absurd (false≢true h)
+sync-first c s m n (Local d e) h = absurd (false≢true h)
+sync-first c s m n (Branch a l) h = absurd (false≢true h)
+sync-first c s m n (Goto l) h = absurd (false≢true h)
+sync-first c s m n (Acquire a) h = refl
+sync-first c s m n (Release a) h = refl
 
 -- code 32
 module _ (k : ℕ) (b : Bool) where

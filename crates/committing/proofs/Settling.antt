@@ -25,14 +25,17 @@ use Rattle.oneorder.specs.OneOrder.{OneState, view, committedOne, afterOne}
 use Rattle.orders.specs.Rows.{orderOf}
 use Rattle.machine.specs.declared.Entry.{Entry}
 use Rattle.machine.specs.declared.Machine.{Machine}
-use Rattle.machine.specs.Shown.{shownEntry, blankEntry, shownOne, shown, nameOf, placeOf, holderOf}
+use Rattle.machine.specs.Word.{entryOf, Packable}
+use Rattle.machine.specs.Shown.{shownEntry, shownOne, shown, nameOf, placeOf, holderOf}
 use Rattle.machine.specs.Fit.{Fine}
+use Rattle.machine.specs.Kept.{Kept}
 use Rattle.machine.specs.Valid.{Valid, ValidEntry, ValidPlace}
 use Rattle.machine.specs.Given.{Accepted, Showing}
 use Rattle.machine.proofs.Entries.{action-at}
 use Rattle.machine.proofs.Ordered.{after-shows, after-reached}
+use Rattle.machine.proofs.Packing.{packable}
 use Rattle.machine.proofs.Stores.{set-put, set-all, actions-set, place-some}
-use Rattle.committing.specs.Committed.{releases, Acquired, resultBy, branchTo, placeBy, lockedBy}
+use Rattle.committing.specs.Committed.{releases, Acquired, KeptBy, resultBy, branchTo, placeBy, lockedBy}
 use Rattle.committing.proofs.Inputs.{branch-input, sync-input, sync-test, order-input, result-inputs}
 
 module _ (c : Case) (one : OneState) (p k e : ℕ) where
@@ -132,8 +135,8 @@ module _ (holders : List ℕ) (x p : ℕ) (long : length holders ≡ 8) where
 abbrev pub doneBy : Entry → ℕ → Entry
 doneBy e r = record { instr = e .instr; proc = e .proc; place = e .place; first = e .first; second = e .second; loc = e .loc; done = true; result = r }
 
-abbrev pub settled : Machine → ℕ → ℕ → ℕ → List ℕ → Entry → List ℕ → Machine
-settled m p k place holders e rows = record { issued = m .issued; places = set (m .places) p place; names = m .names; holders = holders; acts = set (m .acts) k e; rows = rows }
+abbrev pub settled : Machine → ℕ → ℕ → ℕ → List ℕ → ℕ → List ℕ → List ℕ → Machine
+settled m p k place holders w rows sets = record { issued = m .issued; places = set (m .places) p place; names = m .names; holders = holders; acts = set (m .acts) k w; rows = rows; sets = sets }
 
 label-small : (i : Instr) → Fine i → labelOf i ≤ 12
 label-small Empty f = omega arith
@@ -151,7 +154,7 @@ module _ (c : Case) (m : Machine) (p k src : ℕ) (ok : Accepted c m (commit p k
   v = ok .valid
 
   abbrev pub e : Entry
-  e = getD (m .acts) k blankEntry
+  e = entryOf (getD (m .acts) k 0)
 
   abbrev pub s : State
   s = shown c m
@@ -177,6 +180,12 @@ module _ (c : Case) (m : Machine) (p k src : ℕ) (ok : Accepted c m (commit p k
   pub commit-entry : ValidEntry c e
   commit-entry = v .entries k commit-there
 
+  -- the entry fits a word once it is done
+  pub commit-packable : (f : Entry) (r : ℕ) → f ≡ e → Packable (doneBy f r)
+  commit-packable f r h =
+      let v = subst Packable (sym h) (packable c (getD (m .acts) k 0) commit-entry) in
+      record { fine = v .fine; proc = v .proc; place = v .place; first = v .first; second = v .second; loc = v .loc }
+
   self-is : s .actions k ≡ shownEntry c e
   self-is = action-at c (m .issued) (m .acts) s (record { count = refl; actions = refl }) k commit-there
 
@@ -190,31 +199,31 @@ module _ (c : Case) (m : Machine) (p k src : ℕ) (ok : Accepted c m (commit p k
       right true b h k = k
       right false b h k = absurd (false≢true h)
 
-  module _ (rows : List ℕ) (long : length rows ≡ 56) (ho : orderOf rows ≡ joinedIf (acquiring (kind (e .instr))) (orderOf (m .rows)) (8 + k) (8 + m .issued) (releases s first)) where
+  module _ (w : ℕ) (rows sets : List ℕ) (holds : entryOf w ≡ doneBy e (resultBy value first second (e .instr))) (keep : KeptBy p k (m .sets) sets) (long : length rows ≡ 56) (ho : orderOf rows ≡ joinedIf (acquiring (kind (e .instr))) (orderOf (m .rows)) (8 + k) (8 + m .issued) (releases s first)) where
     abbrev after : Machine
-    after = settled m p k (placeBy (kind (e .instr)) (getD (m .places) p 0) first (e .place) (e .instr)) (lockedBy (kind (e .instr)) (m .holders) first p) (doneBy e (resultBy value first second (e .instr))) rows
+    after = settled m p k (placeBy (kind (e .instr)) (getD (m .places) p 0) first (e .place) (e .instr)) (lockedBy (kind (e .instr)) (m .holders) first p) w rows sets
 
     -- the one order is kept as the rules with one order say
-    kept : shownOne c after ≡ afterOne c (shownOne c m) (commit p k src)
+    as-one : shownOne c after ≡ afterOne c (shownOne c m) (commit p k src)
     unfolding afterOne
-    kept =
+    as-one =
         let i = e .instr in
         let q = kind i in
         let one = shownOne c m in
         let inside : k < length (m .acts) = omega (arith, v .acts-long, v .issued, commit-there) in
         let room : p < length (m .places) = omega (arith, v .places-long, commit-low) in
         let r = result-inputs c s (e .first) (e .second) value i in
-        let a = actions-set c (m .issued) (m .issued) k (m .acts) (doneBy e (resultBy value first second i)) commit-there inside (λ j h. refl) ∙ ap (λ (n : ℕ). put (s .actions) k (shownEntry c (doneBy e n))) r in
-        let w = places-set (m .places) p (e .place) (labelOf i) first room (commit-entry .place) (label-small i (commit-entry .fine)) (branching q)
+        let a = actions-set c (m .issued) (m .issued) k (m .acts) w (doneBy e (resultBy value first second i)) holds commit-there inside (λ j h. refl) ∙ ap (λ (n : ℕ). put (s .actions) k (shownEntry c (doneBy e n))) r in
+        let n = places-set (m .places) p (e .place) (labelOf i) first room (commit-entry .place) (label-small i (commit-entry .fine)) (branching q)
         ∙ branch-input c s (e .first) (e .second) (λ n. put (s .places) p (some (cond (eqb n 0) (suc (e .place)) (labelOf i)))) (s .places) i in
         let h = holders-set (m .holders) first p (v .holders-long) (syncs q) (acquiring q) sync-below ∙ sync-input c s (e .first) (e .second) (λ n. put (s .holders) n (cond (acquiring q) (some p) none)) (s .holders) i in
         let o : orderOf rows ≡ committedBy c one p k src (shownEntry c e) .order = ho ∙ order-input c s (e .first) (e .second) (orderOf (m .rows)) (8 + k) (8 + m .issued) (releases s) i in
-        let whole : shownOne c after ≡ committedBy c one p k src (shownEntry c e) = λ j. record { count = m .issued; actions = a j; places = w j; names = s .names; holders = h j; order = o j } in
+        let whole : shownOne c after ≡ committedBy c one p k src (shownEntry c e) = λ j. record { count = m .issued; actions = a j; places = n j; names = s .names; holders = h j; order = o j } in
         whole ∙ ap (committedBy c one p k src) (sym self-is) ∙ sym (committed-is c one p k src)
 
     shows : shown c after ≡ committed c s p k src
     unfolding afterStep
-    shows = after-shows c m after (commit p k src) (v .reached) (ok .fits) kept
+    shows = after-shows c m after (commit p k src) (v .reached) (ok .fits) as-one
 
     valid : Valid c after
     valid =
@@ -229,18 +238,28 @@ module _ (c : Case) (m : Machine) (p k src : ℕ) (ok : Accepted c m (commit p k
           holders-long = holders-long (m .holders) first p (v .holders-long) (syncs (kind i)) (acquiring (kind i));
           rows-long = long;
           places = set-all ValidPlace (m .places) 0 4 p _ room (place-valid (m .places) p (e .place) (labelOf i) first room (commit-entry .place) (label-small i (commit-entry .fine)) (branching (kind i)) (v .places p commit-low)) (λ q h n. v .places q h);
-          entries = set-all (ValidEntry c) (m .acts) blankEntry (m .issued) k _ (omega (arith, v .acts-long, v .issued, commit-there)) (record { fine = commit-entry .fine; place = commit-entry .place; loc = commit-entry .loc; present = commit-entry .present }) (λ q h n. v .entries q h);
-          reached = after-reached c m after (commit p k src) (v .reached) (ok .fits) kept;
+          names = v .names;
+          entries = set-all (λ (x : ℕ). ValidEntry c (entryOf x)) (m .acts) 0 (m .issued) k w (omega (arith, v .acts-long, v .issued, commit-there)) (subst (ValidEntry c) (sym holds) (record { fine = commit-entry .fine; place = commit-entry .place; loc = commit-entry .loc; present = commit-entry .present })) (λ q h n. v .entries q h);
+          kept = subst (λ (t : State). Kept c t sets) (sym shows) (keep .keeps c s src commit-there (can .waits) (v .kept));
+          reached = after-reached c m after (commit p k src) (v .reached) (ok .fits) as-one;
         }
 
-  pub settled-is : (q x place result : ℕ) (holders rows : List ℕ) → q ≡ kind (e .instr) → x ≡ first → Acquired (m .issued) (m .acts) q x (8 + k) (m .rows) rows
-      → place ≡ placeBy q (getD (m .places) p 0) x (e .place) (e .instr) → holders ≡ lockedBy q (m .holders) x p → result ≡ resultBy value x second (e .instr)
-      → Showing c (committed c s p k src) (settled m p k place holders (doneBy e result) rows)
-  settled-is q x place result holders rows hq hx ho hp hh hr =
+  -- what the parts of the commit of an entry f give
+  abbrev Settles : Entry → Type 0
+  Settles f = (q z x y place result w : ℕ) (holders rows sets : List ℕ) → q ≡ kind (f .instr) → z ≡ value → x ≡ orZero (valueOf s (nameOf c (f .first))) → y ≡ orZero (valueOf s (nameOf c (f .second)))
+      → Acquired (m .issued) (m .acts) q x (8 + k) (m .rows) rows → KeptBy p k (m .sets) sets → place ≡ placeBy q (getD (m .places) p 0) x (f .place) (f .instr) → holders ≡ lockedBy q (m .holders) x p
+      → result ≡ resultBy z x y (f .instr) → entryOf w ≡ doneBy f result → Showing c (committed c s p k src) (settled m p k place holders w rows sets)
+
+  settles : Settles e
+  settles q z x y place result w holders rows sets hq hz hx hy ho hk hp hh hr hw =
       let i = e .instr in
       let qo : orderOf rows ≡ joinedIf (acquiring (kind i)) (orderOf (m .rows)) (8 + k) (8 + m .issued) (releases s first) = ho .joins c s (record { count = refl; actions = refl }) ∙ (λ j. joinedIf (acquiring (hq j)) (orderOf (m .rows)) (8 + k) (8 + m .issued) (releases s (hx j))) in
       let qp = hp ∙ (λ j. placeBy (hq j) (getD (m .places) p 0) (hx j) (e .place) i) in
       let qh = hh ∙ (λ j. lockedBy (hq j) (m .holders) (hx j) p) in
-      let qr = hr ∙ (λ j. resultBy value (hx j) second i) in
-      let path : settled m p k place holders (doneBy e result) rows ≡ after rows (ho .size) qo = λ j. settled m p k (qp j) (qh j) (doneBy e (qr j)) rows in
-      subst (Showing c (committed c s p k src)) (sym path) (record { shows = shows rows (ho .size) qo; valid = valid rows (ho .size) qo })
+      let qr = hr ∙ (λ j. resultBy (hz j) (hx j) (hy j) i) in
+      let qw : entryOf w ≡ doneBy e (resultBy value first second i) = hw ∙ (λ j. doneBy e (qr j)) in
+      let path : settled m p k place holders w rows sets ≡ after w rows sets qw hk (ho .size) qo = λ j. settled m p k (qp j) (qh j) w rows sets in
+      subst (Showing c (committed c s p k src)) (sym path) (record { shows = shows w rows sets qw hk (ho .size) qo; valid = valid w rows sets qw hk (ho .size) qo })
+
+  pub settled-is : (f : Entry) → f ≡ e → Settles f
+  settled-is f h = subst Settles (sym h) settles

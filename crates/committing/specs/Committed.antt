@@ -1,6 +1,6 @@
 -- A commit in the words of the arrays. Assumes nothing.
 use mathlib.Core.Path.{_≡_}
-use mathlib.Core.Bool.{Bool, false, _&&_, not, cond}
+use mathlib.Core.Bool.{Bool, true, false, _&&_, not, cond}
 use mathlib.Core.List.{List, [], _∷_}
 use Prim.Native.Nat.{ℕ, _+_, _%_, _<_}
 use lib.Dec.{eqb, leb}
@@ -10,31 +10,33 @@ use Rattle.words.specs.Refusals.{Refusal, _when_}
 use Rattle.cases.specs.declared.Case.{Case}
 use Rattle.cases.specs.declared.Instr.{Instr}
 use Rattle.cases.specs.declared.Instr.the-variants.{Empty, Read, Write, Local, Branch, Goto, Acquire, Release}
-use Rattle.rules.specs.Kinds.{reading, branching, acquiring, releasing, syncs, labelOf, evaluate, heldBy}
+use Rattle.rules.specs.Kinds.{reading, branching, acquiring, releasing, syncs, labelOf, evaluate}
 use Rattle.rules.specs.State.{State, Action, kindOf, waiting, valueOf, inputOf, itemIs}
 use Rattle.rules.specs.Order.{joinedIf}
-use Rattle.rules.specs.Commit.{visible, barred}
+use Rattle.rules.specs.Commit.{visible, barred, committed}
 use Rattle.orders.specs.Rows.{orderOf}
-use Rattle.machine.specs.declared.Entry.{Entry}
-use Rattle.machine.specs.Shown.{blankEntry, Acts}
+use Rattle.machine.specs.Word.{entryOf}
+use Rattle.machine.specs.Shown.{Acts}
+use Rattle.machine.specs.Kept.{Kept}
 use Rattle.machine.specs.Valid.{ValidEntry}
+use Rattle.sights.specs.Sights.{holding}
 
 -- The first n entries are valid.
-abbrev pub Entries : Case → ℕ → List Entry → Type 0
-Entries c n acts = (k : ℕ) → k < n → ValidEntry c (getD acts k blankEntry)
-
--- An action of the queue of processor p holds back the commit of a kind at a location.
-abbrev pub holding : ℕ → ℕ → ℕ → Action → Bool
-holding p kind loc a = waiting p a && heldBy kind (kindOf a) (eqb (a .loc) loc)
+abbrev pub Entries : Case → ℕ → List ℕ → Type 0
+Entries c n acts = (k : ℕ) → k < n → ValidEntry c (entryOf (getD acts k 0))
 
 -- The items of the committed releases of location l.
 abbrev pub releases : State → ℕ → ℕ → Bool
 releases s l i = itemIs false (λ a. releasing (kindOf a) && is l (a .result)) s i
 
 -- The rows once the item of an acquire stands after the committed releases of its location x; those of any other kind are kept.
-pub record Acquired (n : ℕ) (acts : List Entry) (kind x item : ℕ) (old new : List ℕ) : Type 0 where
+pub record Acquired (n : ℕ) (acts : List ℕ) (kind x item : ℕ) (old new : List ℕ) : Type 0 where
   pub size : length new ≡ 56
   pub joins : (c : Case) (s : State) → Acts c n acts s → orderOf new ≡ joinedIf (acquiring kind) (orderOf old) item (8 + n) (releases s x)
+
+-- The sets once queued action k of processor p is committed: they have what they should again, of the state after it.
+pub record KeptBy (p k : ℕ) (old new : List ℕ) : Type 0 where
+  pub keeps : (c : Case) (s : State) (e : ℕ) → k < s .count → waiting p (s .actions k) ≡ true → Kept c s old → Kept c (committed c s p k e) new
 
 -- The refusals after 26, of action k, which is a.
 abbrev pub restRefusals : Case → State → ℕ → ℕ → ℕ → Action → List Refusal

@@ -7,117 +7,21 @@ use machine::Machine;
 ghost use mathlib.Core.Path.{_≡_};
 ghost use mathlib.Core.Bool.{true, _&&_, not};
 ghost use mathlib.Core.List.{[], _∷_};
-ghost use Prim.Native.Nat.{ℕ, _+_, _≤_, _<_};
-ghost use lib.Dec.{eqb};
+ghost use Prim.Native.Nat.{_+_, _≤_, _<_};
 ghost use lib.ListN.{length, getD, set};
-ghost use Rattle.words.specs.Small.{is, isNone, orZero, any, someBelow};
+ghost use Rattle.words.specs.Small.{is, isNone, orZero, any};
 ghost use Rattle.words.specs.Refusals.{_when_, firstOf};
 ghost use Rattle.cases.specs.declared.Case.{Case as TheCase};
-ghost use Rattle.rules.specs.Kinds.{reading, writing, releasing, reads, labelOf};
-ghost use Rattle.rules.specs.State.{State, kindOf, valueOf};
-ghost use Rattle.rules.specs.Commit.{writes as writesOf, visible, barred, commitRefusals, committed as committedOf};
+ghost use Rattle.rules.specs.Kinds.{kind, reading, releasing, syncs, reads, labelOf};
+ghost use Rattle.rules.specs.State.{State, kindOf, valueOf, inputOf};
+ghost use Rattle.rules.specs.Commit.{visible, barred, commitRefusals, committed as committedOf};
 ghost use Rattle.rules.specs.Step.{commit as commitStep};
-ghost use Rattle.oneorder.specs.OneOrder.{standsIn};
-ghost use Rattle.orders.specs.Rows.{orderOf, SetOf};
-ghost use Rattle.machine.specs.Shown.{holderOf, nameOf, shownEntry, shown, ordersOf, Acts};
+ghost use Rattle.orders.specs.Rows.{SetOf};
+ghost use Rattle.machine.specs.Shown.{holderOf, nameOf, shownEntry, shown, Presets, Acts};
 ghost use Rattle.machine.specs.Given.{Accepted, Showing};
-ghost use Rattle.committing.specs.Committed.{holding, releases, Acquired, restRefusals, resultBy, branchTo, placeBy, lockedBy};
-ghost use Rattle.committing.specs.Given.{Hiding, Asking, AskingOne, Locking, Acquiring};
-
-// Whether a queued entry of processor p holds back the commit of a kind at a location.
-fn holds(e: Entry, p: usize, kind: u8, loc: u8) -> bool
-    requires { ⌜ kind < 8 ⌝ }
-    ensures { λ r. ⌜ ((c : TheCase) → r ≡ holding p kind loc (shownEntry c e)) ⌝ }
-{
-    let i = e.instr;
-    let q = rules::kind_of(i);
-    let w = machine::queued(e, p);
-    let same = e.loc == loc;
-    let h = rules::held_by(kind, q, same);
-    w & h
-}
-
-// Whether an action before k holds it back.
-pub fn held(acts: [Entry; 48], k: usize, p: usize, kind: u8, loc: u8) -> bool
-    requires { ⌜ (k ≤ 48) × (length acts ≡ 48) × (kind < 8) ⌝ }
-    ensures { λ r. ⌜ ((c : TheCase) (n : ℕ) (s : State) → Acts c n acts s → k ≤ n → r ≡ someBelow k (λ j. holding p kind loc (s .actions j))) ⌝ }
-{
-    let mut found = false;
-    let mut j: usize = 0;
-    while j < k {
-        let e = acts[j];
-        let h = holds(e, p, kind, loc);
-        found = h | found;
-        j += 1;
-    }
-    found
-}
-
-// Whether an entry is a write at location l.
-pub fn writes_at(e: Entry, l: usize) -> bool
-    ensures { λ r. ⌜ ((c : TheCase) → r ≡ (writing (kindOf (shownEntry c e)) && eqb (shownEntry c e .loc) l)) ⌝ }
-{
-    let i = e.instr;
-    let k = rules::kind_of(i);
-    let loc = words::wide(e.loc);
-    (k == 2) & (loc == l)
-}
-
-// Whether item w is a write item of location l.
-fn writes(acts: [Entry; 48], issued: usize, l: usize, w: usize) -> bool
-    requires { ⌜ (issued ≤ 48) × (length acts ≡ 48) ⌝ }
-    ensures { λ r. ⌜ ((c : TheCase) (s : State) → Acts c issued acts s → r ≡ writesOf s l w) ⌝ }
-{
-    if w < 8 {
-        return w == l;
-    }
-    let k = w - 8;
-    if k < issued {
-        let e = acts[k];
-        return writes_at(e, l);
-    }
-    false
-}
-
-// Whether a write item of location l stands after item w and before item i.
-fn hidden(acts: [Entry; 48], rows: &[u64; 56], issued: usize, l: usize, i: usize, w: usize) -> bool
-    requires { ⌜ Hiding issued acts l ⌝ }
-    ensures { λ r. ⌜ ((c : TheCase) (s : State) → Acts c issued acts s → r ≡ someBelow (8 + s .count) (λ v. writesOf s l v && (orderOf (now (rows .entry)) w v && orderOf (now (rows .entry)) v i))) ⌝ }
-{
-    let a = orders::before(rows, w, l);
-    let b = orders::before(rows, l, i);
-    let mut found = a & b;
-    let mut k: usize = 0;
-    while k < issued {
-        let e = acts[k];
-        let x = writes_at(e, l);
-        let a = orders::before(rows, w, 8 + k);
-        let b = orders::before(rows, 8 + k, i);
-        found = (x & (a & b)) | found;
-        k += 1;
-    }
-    found
-}
-
-// Whether the read item i of location l may take the value of item w.
-fn sees(
-    c: Case,
-    acts: [Entry; 48],
-    rows: &[u64; 56],
-    issued: usize,
-    l: usize,
-    i: usize,
-    w: usize,
-) -> bool
-    requires { ⌜ Hiding issued acts l ⌝ }
-    ensures { λ r. ⌜ ((s : State) → Acts c issued acts s → s .orders ≡ ordersOf c (s .actions) (now (rows .entry)) → l < c .locs → standsIn (s .actions) l i ≡ true → r ≡ visible c s l i w) ⌝ }
-{
-    let x = writes(acts, issued, l, w);
-    let v = machine::item_value(c, acts, issued, w);
-    let h = hidden(acts, rows, issued, l, i, w);
-    let d = orders::before(rows, i, w);
-    ((x & v.known) & !h) & !d
-}
+ghost use Rattle.sights.specs.Sights.{Names, Sight};
+ghost use Rattle.committing.specs.Committed.{releases, Acquired, KeptBy, restRefusals, resultBy, branchTo, placeBy, lockedBy};
+ghost use Rattle.committing.specs.Given.{Asking, AskingOne, Arrays, Shows, Locking, Acquiring, Keeping};
 
 // How many registers an instruction reads.
 pub fn arity(i: Instr) -> u8
@@ -141,23 +45,28 @@ pub fn arity(i: Instr) -> u8
 }
 
 // Whether a register that the entry reads is undefined.
-pub fn unready(c: Case, acts: [Entry; 48], issued: usize, e: Entry) -> bool
-    requires { ⌜ (issued ≤ 48) × (length acts ≡ 48) ⌝ }
-    ensures { λ r. ⌜ ((s : State) → Acts c issued acts s → r ≡ any (λ n. isNone (valueOf s n)) (shownEntry c e .inputs)) ⌝ }
+pub fn unready<'a>(masks: &'a [u8; 4], sets: &'a [u64; 21], e: Entry) -> bool
+    ensures { λ r. ⌜ ((c : TheCase) (s : State) → Names c s (now (masks .entry)) (now (sets .entry)) → r ≡ any (λ n. isNone (valueOf s n)) (shownEntry c e .inputs)) ⌝ }
 {
     let i = e.instr;
     let n = arity(i);
-    let x = machine::named(c, acts, issued, e.first);
-    let y = machine::named(c, acts, issued, e.second);
-    ((0 < n) & !x.known) | ((1 < n) & !y.known)
+    let x = sights::known(masks, sets, e.first);
+    let y = sights::known(masks, sets, e.second);
+    ((0 < n) & !x) | ((1 < n) & !y)
 }
 
 // The value of a register that an entry reads, by its name.
-pub fn input(c: Case, acts: [Entry; 48], issued: usize, name: u8) -> u16
-    requires { ⌜ (issued ≤ 48) × (length acts ≡ 48) ⌝ }
-    ensures { λ r. ⌜ ((s : State) → Acts c issued acts s → r ≡ orZero (valueOf s (nameOf c name))) ⌝ }
+pub fn input<'a>(
+    masks: &'a [u8; 4],
+    presets: &'a [u16; 32],
+    acts: &'a [u64; 48],
+    issued: usize,
+    name: u8,
+) -> u16
+    requires { ⌜ issued ≤ 48 ⌝ }
+    ensures { λ r. ⌜ ((c : TheCase) (s : State) → Presets c (now (masks .entry)) (now (presets .entry)) → Acts c issued (now (acts .entry)) s → r ≡ orZero (valueOf s (nameOf c name))) ⌝ }
 {
-    machine::or_zero(machine::named(c, acts, issued, name))
+    machine::or_zero(machine::named(masks, presets, acts, issued, name))
 }
 
 // Who holds location x: 0 is nobody, 1 + p is processor p.
@@ -183,87 +92,94 @@ pub fn barred_by(h: u8, kind: u8, p: usize) -> bool
 }
 
 // Code 32, of an entry of a kind and a location with item i.
-fn sight_code(
-    c: Case,
-    acts: [Entry; 48],
-    rows: &[u64; 56],
-    issued: usize,
+fn sight_code<'a>(
+    rows: &'a [u64; 56],
+    sets: &'a [u64; 21],
     kind: u8,
     loc: u8,
     i: usize,
     src: usize,
 ) -> u8
-    requires { ⌜ (issued ≤ 48) × (length acts ≡ 48) × (loc < 8) ⌝ }
-    ensures { λ r. ⌜ ((s : State) → Acts c issued acts s → s .orders ≡ ordersOf c (s .actions) (now (rows .entry)) → (reading kind ≡ true → (loc < c .locs) × (standsIn (s .actions) loc i ≡ true)) → r ≡ firstOf (32 when (reading kind && not (visible c s loc i src)) ∷ [])) ⌝ }
+    requires { ⌜ loc < 8 ⌝ }
+    ensures { λ r. ⌜ ((c : TheCase) (s : State) → (reading kind ≡ true → Sight c s (now (sets .entry)) (now (rows .entry)) loc i) → r ≡ firstOf (32 when (reading kind && not (visible c s loc i src)) ∷ [])) ⌝ }
 {
     if kind == 1 {
         let l = words::wide(loc);
-        if !sees(c, acts, rows, issued, l, i, src) {
+        if !words::has(sights::visible_items(rows, sets, l, i), src) {
             return 32;
         }
     }
     0
 }
 
-// Codes 27 to 32, of entry k, which is e.
-fn rest_code<'a>(
-    c: Case,
-    acts: [Entry; 48],
+// Codes 27 to 32, of entry k, which is e; x is the value of its first register where it is an acquire or a release.
+pub fn rest_code<'a>(
+    masks: &'a [u8; 4],
     rows: &'a [u64; 56],
+    sets: &'a [u64; 21],
     holders: &'a [u8; 8],
-    issued: usize,
+    locs: u8,
     e: Entry,
+    x: usize,
     p: usize,
     k: usize,
     src: usize,
 ) -> u8
-    requires { ⌜ AskingOne c issued acts (now holders) e p k ⌝ }
-    ensures { λ r. ⌜ ((s : State) → Acts c issued acts s → s .orders ≡ ordersOf c (s .actions) (now (rows .entry)) → s .actions k ≡ shownEntry c e → s .holders ≡ (λ l. holderOf (getD (now (holders .entry)) l 0)) → r ≡ firstOf (restRefusals c s p k src (shownEntry c e))) ⌝ }
+    requires { ⌜ AskingOne (now holders) e p k ⌝ }
+    ensures { λ r. ⌜ ((c : TheCase) (s : State) → Shows c s (now (masks .entry)) (now (rows .entry)) (now (sets .entry)) (now (holders .entry)) locs e k → (syncs (kind (e .instr)) ≡ true → x ≡ inputOf s (shownEntry c e) 0) → r ≡ firstOf (restRefusals c s p k src (shownEntry c e))) ⌝ }
 {
     let i = e.instr;
     let kind = rules::kind_of(i);
     if (src != 0) & !(kind == 1) {
         return 27;
     }
-    if held(acts, k, p, kind, e.loc) {
+    if sights::held(sets, p, k, kind, e.loc) {
         return 28;
     }
-    if unready(c, acts, issued, e) {
+    if unready(masks, sets, e) {
         return 29;
     }
-    let x = input(c, acts, issued, e.first) as usize;
-    let top = words::wide(c.locs);
+    let top = words::wide(locs);
     if ((kind == 6) | (kind == 7)) & (top <= x) {
         return 30;
     }
     if barred_by(holder_at(holders, x), kind, p) {
         return 31;
     }
-    sight_code(c, acts, rows, issued, kind, e.loc, 8 + k, src)
+    sight_code(rows, sets, kind, e.loc, 8 + k, src)
 }
 
 // The code that the commit of action k of processor p gets; a read names the source item.
 pub fn commit_code<'a>(
-    c: Case,
-    acts: [Entry; 48],
+    masks: &'a [u8; 4],
+    presets: &'a [u16; 32],
+    acts: &'a [u64; 48],
     rows: &'a [u64; 56],
+    sets: &'a [u64; 21],
     holders: &'a [u8; 8],
+    locs: u8,
     issued: usize,
     p: usize,
     k: usize,
     src: usize,
 ) -> u8
-    requires { ⌜ Asking c issued acts (now holders) p ⌝ }
-    ensures { λ r. ⌜ ((s : State) → Acts c issued acts s → s .orders ≡ ordersOf c (s .actions) (now (rows .entry)) → s .holders ≡ (λ l. holderOf (getD (now (holders .entry)) l 0)) → r ≡ firstOf (commitRefusals c s p k src)) ⌝ }
+    requires { ⌜ Asking issued (now holders) p ⌝ }
+    ensures { λ r. ⌜ ((c : TheCase) (s : State) → Presets c (now (masks .entry)) (now (presets .entry)) → Acts c issued (now (acts .entry)) s → Arrays c s issued (now (acts .entry)) (now (rows .entry)) (now (sets .entry)) (now (holders .entry)) locs → r ≡ firstOf (commitRefusals c s p k src)) ⌝ }
 {
     if issued <= k {
         return 26;
     }
-    let e = acts[k];
+    let e = machine::entry_at(acts, k);
     if !machine::queued(e, p) {
         return 26;
     }
-    rest_code(c, acts, rows, holders, issued, e, p, k, src)
+    let i = e.instr;
+    let kind = rules::kind_of(i);
+    if (kind == 6) | (kind == 7) {
+        let x = input(masks, presets, acts, issued, e.first) as usize;
+        return rest_code(masks, rows, sets, holders, locs, e, x, p, k, src);
+    }
+    rest_code(masks, rows, sets, holders, locs, e, 0, p, k, src)
 }
 
 // What a commit gives: v is the value of the source, x and y are the inputs.
@@ -357,14 +273,14 @@ fn frees(e: Entry, x: usize) -> bool
 }
 
 // The items of the committed releases of location x.
-fn released(acts: [Entry; 48], issued: usize, x: usize) -> u64
-    requires { ⌜ (issued ≤ 48) × (length acts ≡ 48) ⌝ }
-    ensures { λ r. ⌜ ((c : TheCase) (s : State) → Acts c issued acts s → SetOf (8 + issued) (releases s x) r) ⌝ }
+fn released(acts: &[u64; 48], issued: usize, x: usize) -> u64
+    requires { ⌜ issued ≤ 48 ⌝ }
+    ensures { λ r. ⌜ ((c : TheCase) (s : State) → Acts c issued (now (acts .entry)) s → SetOf (8 + issued) (releases s x) r) ⌝ }
 {
     let mut items: u64 = 0;
     let mut k: usize = 0;
     while k < issued {
-        let e = acts[k];
+        let e = machine::entry_at(acts, k);
         let test = frees(e, x);
         items = orders::with(items, 8 + k, test);
         k += 1;
@@ -375,19 +291,31 @@ fn released(acts: [Entry; 48], issued: usize, x: usize) -> u64
 // Puts an acquire's item after the committed releases of its location x.
 fn order_acquire(
     rows: &mut [u64; 56],
-    acts: [Entry; 48],
+    acts: &[u64; 48],
     issued: usize,
     kind: u8,
     x: usize,
     item: usize,
 )
-    requires { ⌜ Acquiring issued acts item (now rows) ⌝ }
-    ensures { λ _. ⌜ Acquired issued acts kind x item (now (rows .entry)) (now (rows .exit)) ⌝ }
+    requires { ⌜ Acquiring issued item (now rows) ⌝ }
+    ensures { λ _. ⌜ Acquired issued (now (acts .entry)) kind x item (now (rows .entry)) (now (rows .exit)) ⌝ }
 {
     if kind == 6 {
         let items = released(acts, issued, x);
         orders::join(rows, item, items, 8 + issued);
     }
+}
+
+// The item of action k leaves the queue of processor p, and has its value.
+fn settle_sets(sets: &mut [u64; 21], p: usize, k: usize)
+    requires { ⌜ Keeping (now sets) p k ⌝ }
+    ensures { λ _. ⌜ KeptBy p k (now (sets .entry)) (now (sets .exit)) ⌝ }
+{
+    let bit = words::one(8 + k);
+    let queue = orders::minus(sets[16 + p], bit);
+    let given = sets[20];
+    sets[16 + p] = queue;
+    sets[20] = bit | given;
 }
 
 // The machine after the commit of action k of processor p, which nothing refuses.
@@ -396,25 +324,26 @@ pub fn commit(c: Case, m: Machine, p: usize, k: usize, src: usize) -> Machine
     ensures { λ r. ⌜ Showing c (committedOf c (shown c m) p k src) r ⌝ }
 {
     let issued = m.issued;
-    let acts = m.acts;
-    let e = m.acts[k];
+    let e = machine::entry_at(&m.acts, k);
     let i = e.instr;
     let kind = rules::kind_of(i);
-    let v = machine::or_zero(machine::item_value(c, acts, issued, src));
-    let x = input(c, acts, issued, e.first);
-    let y = input(c, acts, issued, e.second);
+    let v = machine::or_zero(machine::item_value(&c.memory, &m.acts, issued, src));
+    let x = input(&c.masks, &c.presets, &m.acts, issued, e.first);
+    let y = input(&c.masks, &c.presets, &m.acts, issued, e.second);
     let result = result_by(v, x, y, i);
     let at = place_by(kind, m.places[p], x, e.place, i);
     let w = x as usize;
     let holders = m.holders;
     let locks = locked_by(kind, holders, w, p);
-    let mut n = m;
-    order_acquire(&mut n.rows, acts, issued, kind, w, 8 + k);
-    n.acts[k] = Entry {
+    let word = machine::packed(Entry {
         done: true,
         result,
         ..e
-    };
+    });
+    let mut n = m;
+    order_acquire(&mut n.rows, &m.acts, issued, kind, w, 8 + k);
+    settle_sets(&mut n.sets, p, k);
+    n.acts[k] = word;
     n.places[p] = at;
     n.holders = locks;
     n

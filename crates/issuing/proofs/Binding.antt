@@ -6,8 +6,9 @@ use mathlib.Core.List.{List, [], _∷_, map}
 use mathlib.Core.Option.{Option, none}
 use Prim.Native.Nat.{ℕ, _+_, _*_, _%_, _≤_, _<_}
 use native.Mathlib.Omega.{arith}
+use native.Mathlib.Decide.{decLt}
 use lib.Dec.{leb}
-use lib.ListN.{getD}
+use lib.ListN.{length, getD, List·getD-eq-default}
 use borrow.Author.Tests.{lt-ltb, leb-false}
 use Rattle.words.specs.Small.{orZero}
 use Rattle.words.proofs.Bools.{decide}
@@ -21,7 +22,11 @@ use Rattle.rules.specs.State.{State, Name, start, valueOf, kindOf}
 use Rattle.rules.specs.Issue.{here, next, address, newAction}
 use Rattle.machine.specs.Shown.{nameOf, namesOf, inputsOf, shownEntry}
 use Rattle.machine.specs.Fit.{Fine, FineExpr}
-use Rattle.issuing.specs.Issued.{fresh}
+use Rattle.issuing.specs.Issued.{Low, fresh}
+
+-- a name is low wherever it is looked for
+pub name-low : (names : List ℕ) (n : ℕ) → length names ≡ 32 → Low names → getD names n 0 < 80
+name-low names n long low = elim (decLt n 32) [ yes h ↦ low n h | no h ↦ let q : getD names n 0 ≡ 0 = List·getD-eq-default names 0 (omega (arith, long)) in omega arith ]
 
 -- at most two registers, each below 8
 abbrev Regs : List ℕ → Type 0

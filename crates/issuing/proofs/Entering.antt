@@ -19,7 +19,7 @@ use Rattle.cases.specs.declared.Instr.the-variants.{Empty, Read, Write, Local, 
 use Rattle.cases.specs.Case.{countOf, instrAt}
 use Rattle.rules.specs.Kinds.{accesses, assigns}
 use Rattle.rules.specs.Order.{joinedIf}
-use Rattle.rules.specs.State.{Name, given, Action, kindOf}
+use Rattle.rules.specs.State.{Name, given, Action, State, kindOf}
 use Rattle.rules.specs.Issue.{placeAfter, renamed, newAction, issued}
 use Rattle.rules.specs.Step.{issue, after as afterStep}
 use Rattle.rules.proofs.Accepted.{CanIssue, can-issue}
@@ -28,13 +28,15 @@ use Rattle.orders.specs.Rows.{orderOf}
 use Rattle.orders.proofs.Reached.{ltb-next}
 use Rattle.machine.specs.declared.Entry.{Entry}
 use Rattle.machine.specs.declared.Machine.{Machine}
-use Rattle.machine.specs.Shown.{shownEntry, blankEntry, shownOne, shown, nameOf, namesOf, placeOf}
+use Rattle.machine.specs.Word.{entryOf, Packable}
+use Rattle.machine.specs.Shown.{shownEntry, shownOne, shown, nameOf, namesOf, placeOf}
 use Rattle.machine.specs.Fit.{Fine}
+use Rattle.machine.specs.Kept.{Kept}
 use Rattle.machine.specs.Valid.{Valid, ValidEntry, ValidPlace}
 use Rattle.machine.specs.Given.{Accepted, Showing}
 use Rattle.machine.proofs.Ordered.{after-shows, after-reached}
 use Rattle.machine.proofs.Stores.{set-put, set-all, actions-set, place-some}
-use Rattle.issuing.specs.Issued.{assignedBy, placeBy, fresh, after, Ordered, Entering}
+use Rattle.issuing.specs.Issued.{Low, assignedBy, placeBy, fresh, after, Ordered, KeptBy, Entering}
 use Rattle.issuing.proofs.Binding.{fresh-is, new-low, new-present}
 
 next-place : (n : ℕ) → n < 12 → (placeOf (n + 1) ≡ some (suc n)) × ValidPlace (n + 1)
@@ -124,8 +126,11 @@ pub names-none : (c : Case) (names : List ℕ) (p k d : ℕ) (i : Instr) → Fin
     → namesOf c names ≡ put (namesOf c names) p (renamed (namesOf c names p) (assigns i) (given k))
 names-none c names p k d i f q le = put-same (namesOf c names) p ∙ sym (ap (λ (o : Option ℕ). put (namesOf c names) p (renamed (namesOf c names p) o (given k))) (assigned-none i f (omega arith)))
 
-abbrev grown : Machine → ℕ → ℕ → List ℕ → Entry → List ℕ → Machine
-grown m p place names e rows = record { issued = m .issued + 1; places = set (m .places) p place; names = names; holders = m .holders; acts = set (m .acts) (m .issued) e; rows = rows }
+pub names-stored : (names : List ℕ) (p k d v : ℕ) → Low names → length names ≡ 32 → p < 4 → k < 48 → d < 8 → v ≡ 32 + k → Low (set names (8 * p + d) v)
+names-stored names p k d v low long hp hk hd hv = set-all (λ (n : ℕ). n < 80) names 0 32 (8 * p + d) v (omega arith) (omega arith) (λ q h n. low q h)
+
+abbrev grown : Machine → ℕ → ℕ → List ℕ → ℕ → List ℕ → List ℕ → Machine
+grown m p place names w rows sets = record { issued = m .issued + 1; places = set (m .places) p place; names = names; holders = m .holders; acts = set (m .acts) (m .issued) w; rows = rows; sets = sets }
 
 -- the state with the action a of processor p issued
 abbrev entered : Case → Machine → ℕ → Action → OneState
@@ -185,7 +190,11 @@ module _ (c : Case) (m : Machine) (p : ℕ) (ok : Accepted c m (issue p)) where
     present = λ a. subst (λ (l : ℕ). l < c .locs) (sym (ap (λ (x : Action). x .loc) (issue-new e h))) (new-present c (shown c m) p (ok .valid .fit .locs) (can .low) (subst (λ (x : Action). accesses (kindOf x) ≡ true) (issue-new e h) a));
   }
 
-module _ (c : Case) (m : Machine) (p place : ℕ) (names : List ℕ) (e : Entry) (rows : List ℕ) (E : Entering c m p e names) (hp : place ≡ placeBy (e .instr) (e .place)) (o : Ordered (m .issued) (m .acts) p e (m .rows) rows) where
+  pub issue-packable : (e : Entry) → shownEntry c e ≡ fresh (shown c m) p at (instrAt c p at) → e .first < 128 → e .second < 128 → Packable e
+  issue-packable e h x y =
+      let v = issue-entry e h in record { fine = v .fine; proc = omega (arith, ap (λ (a : Action). a .proc) h, issue-low); place = omega (arith, v .place); first = x; second = y; loc = v .loc }
+
+module _ (c : Case) (m : Machine) (p place : ℕ) (names : List ℕ) (e : Entry) (w : ℕ) (rows sets : List ℕ) (E : Entering c m p e names) (holds : entryOf w ≡ e) (hp : place ≡ placeBy (e .instr) (e .place)) (o : Ordered (m .issued) (m .acts) p e (m .rows) rows) (k : KeptBy (m .issued) e (m .sets) sets) where
   abbrev v : Valid c m
   v = E .accepted .valid
 
@@ -199,30 +208,35 @@ module _ (c : Case) (m : Machine) (p place : ℕ) (names : List ℕ) (e : Entry)
   at-place = place-by (e .instr) (e .place) (E .entry .fine) (E .entry .place)
 
   -- the one order is kept as the rules with one order say
-  grown-one : shownOne c (grown m p place names e rows) ≡ afterOne c (shownOne c m) (issue p)
+  grown-one : shownOne c (grown m p place names w rows sets) ≡ afterOne c (shownOne c m) (issue p)
   grown-one =
       let n = add-one (m .issued) in
-      let u = actions-set c (m .issued) (m .issued + 1) (m .issued) (m .acts) e (omega arith) (omega (arith, v .acts-long, room)) (λ k h. ltb-next k (m .issued) h) in
-      let w = set-put placeOf (m .places) 0 p place (placeAfter (e .instr) (e .place)) (omega (arith, v .places-long, low)) (ap placeOf hp ∙ at-place .0) in
+      let u = actions-set c (m .issued) (m .issued + 1) (m .issued) (m .acts) w e holds (omega arith) (omega (arith, v .acts-long, room)) (λ k h. ltb-next k (m .issued) h) in
+      let y = set-put placeOf (m .places) 0 p place (placeAfter (e .instr) (e .place)) (omega (arith, v .places-long, low)) (ap placeOf hp ∙ at-place .0) in
       let j = o .joins c (shown c m) (record { count = refl; actions = refl }) in
       let h = E .renames in
-      let whole : shownOne c (grown m p place names e rows) ≡ entered c m p (shownEntry c e) = λ i. record { count = n i; actions = u i; places = w i; names = h i; holders = shown c m .holders; order = j i } in
+      let whole : shownOne c (grown m p place names w rows sets) ≡ entered c m p (shownEntry c e) = λ i. record { count = n i; actions = u i; places = y i; names = h i; holders = shown c m .holders; order = j i } in
       whole ∙ ap (entered c m p) (E .new) ∙ entered-is c m p
 
-  pub grown-is : Showing c (issued c (shown c m) p) (grown m p place names e rows)
+  grown-shows : shown c (grown m p place names w rows sets) ≡ issued c (shown c m) p
   unfolding afterStep
+  grown-shows = after-shows c m (grown m p place names w rows sets) (issue p) (v .reached) (E .accepted .fits) grown-one
+
+  pub grown-is : Showing c (issued c (shown c m) p) (grown m p place names w rows sets)
   grown-is = record {
-    shows = after-shows c m (grown m p place names e rows) (issue p) (v .reached) (E .accepted .fits) grown-one;
+    shows = grown-shows;
     valid = record {
       fit = v .fit;
       issued = omega (arith, room);
-      acts-long = length-set (m .acts) (m .issued) e ∙ v .acts-long;
+      acts-long = length-set (m .acts) (m .issued) w ∙ v .acts-long;
       places-long = length-set (m .places) p place ∙ v .places-long;
       names-long = E .names-long;
       holders-long = v .holders-long;
       rows-long = o .size;
       places = set-all ValidPlace (m .places) 0 4 p place (omega (arith, v .places-long, low)) (subst ValidPlace (sym hp) (at-place .1)) (λ q h n. v .places q h);
-      entries = set-all (ValidEntry c) (m .acts) blankEntry (m .issued + 1) (m .issued) e (omega (arith, v .acts-long, room)) (E .entry) (λ q h n. v .entries q (omega arith));
-      reached = after-reached c m (grown m p place names e rows) (issue p) (v .reached) (E .accepted .fits) grown-one;
+      names = E .names-low;
+      entries = set-all (λ (x : ℕ). ValidEntry c (entryOf x)) (m .acts) 0 (m .issued + 1) (m .issued) w (omega (arith, v .acts-long, room)) (subst (ValidEntry c) (sym holds) (E .entry)) (λ q h n. v .entries q (omega arith));
+      kept = subst (λ (s : State). Kept c s sets) (sym grown-shows) (k .keeps c (shown c m) p refl (E .new) (v .kept));
+      reached = after-reached c m (grown m p place names w rows sets) (issue p) (v .reached) (E .accepted .fits) grown-one;
     };
   }

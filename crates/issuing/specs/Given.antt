@@ -12,33 +12,39 @@ use Rattle.rules.specs.Issue.{renamed}
 use Rattle.machine.specs.declared.Entry.{Entry}
 use Rattle.machine.specs.Shown.{namesOf}
 use Rattle.machine.specs.Fit.{Fine, Fit}
+use Rattle.issuing.specs.Issued.{Low}
 
--- Room for a new entry, its location, and the arrays at their sizes.
-pub record Joining (n : ℕ) (acts : List Entry) (rows : List ℕ) (e : Entry) : Type 0 where
+-- Room for a new entry, its location, and the rows at their number.
+pub record Joining (n : ℕ) (rows : List ℕ) (e : Entry) : Type 0 where
   pub room : n < 48
-  pub acts-long : length acts ≡ 48
   pub rows-long : length rows ≡ 56
   pub loc : e .loc < 8
 
--- A processor that a case can have, an instruction of a case, and the arrays at their sizes.
-pub record Binding (n : ℕ) (acts : List Entry) (names : List ℕ) (p : ℕ) (i : Instr) : Type 0 where
+-- Room for a new entry, its processor and location, and the sets at their number.
+pub record Keeping (sets : List ℕ) (n : ℕ) (e : Entry) : Type 0 where
+  pub sets-long : length sets ≡ 21
+  pub room : n < 48
+  pub proc : e .proc < 4
+  pub loc : e .loc < 8
+
+-- A processor that a case can have, an instruction of a case, and the names at their size.
+pub record Binding (n : ℕ) (names : List ℕ) (p : ℕ) (i : Instr) : Type 0 where
   pub issued : n ≤ 48
-  pub acts-long : length acts ≡ 48
   pub names-long : length names ≡ 32
   pub proc : p < 4
   pub fine : Fine i
 
--- A case, a processor that it can have, and the arrays at their sizes.
-pub record Asking (c : Case) (n : ℕ) (acts : List Entry) (names : List ℕ) (p : ℕ) : Type 0 where
+-- A case, a processor that it can have, and the names at their size.
+pub record Asking (c : Case) (n : ℕ) (names : List ℕ) (p : ℕ) : Type 0 where
   pub fit : Fit c
   pub issued : n ≤ 48
-  pub acts-long : length acts ≡ 48
   pub names-long : length names ≡ 32
   pub proc : p < 4
 
--- A processor, an action and an instruction that a case can have, and the names at their size.
+-- A processor, an action and an instruction that a case can have, and the names at their size, each low.
 pub record Renaming (names : List ℕ) (p k : ℕ) (i : Instr) : Type 0 where
   pub names-long : length names ≡ 32
+  pub names-low : Low names
   pub proc : p < 4
   pub action : k < 48
   pub fine : Fine i
@@ -46,4 +52,5 @@ pub record Renaming (names : List ℕ) (p k : ℕ) (i : Instr) : Type 0 where
 -- r are the names once action k of processor p, of instruction i, has its register renamed.
 pub record Renamed (names : List ℕ) (p k : ℕ) (i : Instr) (r : List ℕ) : Type 0 where
   pub long : length r ≡ 32
+  pub low : Low r
   pub shows : (c : Case) → namesOf c r ≡ put (namesOf c names) p (renamed (namesOf c names p) (assigns i) (given k))

@@ -3,7 +3,7 @@ use mathlib.Core.Path.{_≡_}
 use mathlib.Core.Bool.{Bool, cond, _&&_}
 use mathlib.Core.List.{List, map}
 use mathlib.Core.Option.{none}
-use Prim.Native.Nat.{ℕ, _+_, _%_}
+use Prim.Native.Nat.{ℕ, _+_, _%_, _<_}
 use lib.Dec.{eqb}
 use lib.ListN.{length, getD}
 use Rattle.words.specs.Small.{orZero, put}
@@ -13,15 +13,21 @@ use Rattle.cases.specs.declared.Instr.the-variants.{Empty, Read, Write, Local, 
 use Rattle.rules.specs.Kinds.{kind, accesses, reads, assigns}
 use Rattle.rules.specs.Order.{joinedIf}
 use Rattle.rules.specs.State.{State, Action, start, given, valueOf, itemIs, standsAt}
-use Rattle.rules.specs.Issue.{renamed, newAction}
+use Rattle.rules.specs.Issue.{renamed, newAction, issued}
 use Rattle.rules.specs.Step.{issue}
 use Rattle.oneorder.specs.OneOrder.{hasItem}
 use Rattle.orders.specs.Rows.{orderOf}
 use Rattle.machine.specs.declared.Entry.{Entry}
 use Rattle.machine.specs.declared.Machine.{Machine}
-use Rattle.machine.specs.Shown.{namesOf, shown, shownEntry, Acts}
+use Rattle.machine.specs.Word.{Packable}
+use Rattle.machine.specs.Shown.{namesOf, shown, shownEntry, Presets, Acts}
+use Rattle.machine.specs.Kept.{Kept}
 use Rattle.machine.specs.Valid.{ValidEntry}
 use Rattle.machine.specs.Given.{Accepted}
+
+-- Each of the names is of a register or of one of 48 actions.
+abbrev pub Low : List ℕ → Type 0
+Low names = (n : ℕ) → n < 32 → getD names n 0 < 80
 
 -- The register that an instruction assigns; 8 where it assigns none.
 abbrev pub assignedBy : Instr → ℕ
@@ -57,19 +63,31 @@ fresh s p place i =
       result = none;
     }
 
+-- r is a new entry of instruction i of processor p, at a place, its registers bound to names that a word can hold.
+pub record Bound (masks presets names acts : List ℕ) (n p place : ℕ) (i : Instr) (r : Entry) : Type 0 where
+  pub first : Low names → r .first < 128
+  pub second : Low names → r .second < 128
+  pub shows : (c : Case) (s : State) → Presets c masks presets → Acts c n acts s → s .names ≡ namesOf c names → shownEntry c r ≡ fresh s p place i
+
 -- The items that that of a new action of processor p stands after: the initial writes of the locations where it stands, all earlier items of p.
 abbrev pub after : ℕ → Action → State → ℕ → Bool
 after p new s e = itemIs (standsAt e new) (λ a. eqb (a .proc) p && hasItem a) s e
 
 -- The rows once the item of a new entry e of processor p has joined the order.
-pub record Ordered (n : ℕ) (acts : List Entry) (p : ℕ) (e : Entry) (old new : List ℕ) : Type 0 where
+pub record Ordered (n : ℕ) (acts : List ℕ) (p : ℕ) (e : Entry) (old new : List ℕ) : Type 0 where
   pub size : length new ≡ 56
   pub joins : (c : Case) (s : State) → Acts c n acts s → orderOf new ≡ joinedIf (hasItem (shownEntry c e)) (orderOf old) (8 + n) (8 + n) (after p (shownEntry c e) s)
+
+-- The sets once the item of a new entry e, action n, has joined them: they have what they should again, of the state with e issued.
+pub record KeptBy (n : ℕ) (e : Entry) (old new : List ℕ) : Type 0 where
+  pub keeps : (c : Case) (s : State) (p : ℕ) → s .count ≡ n → shownEntry c e ≡ newAction c s p → Kept c s old → Kept c (issued c s p) new
 
 -- e is the action of an issue of processor p that nothing refuses, with the names after it.
 pub record Entering (c : Case) (m : Machine) (p : ℕ) (e : Entry) (names : List ℕ) : Type 0 where
   pub accepted : Accepted c m (issue p)
   pub new : shownEntry c e ≡ newAction c (shown c m) p
   pub entry : ValidEntry c e
+  pub packable : Packable e
   pub names-long : length names ≡ 32
+  pub names-low : Low names
   pub renames : namesOf c names ≡ put (namesOf c (m .names)) p (renamed (namesOf c (m .names) p) (assigns (e .instr)) (given (m .issued)))

@@ -20,10 +20,10 @@ ghost use Rattle.rules.specs.Issue.{issueRefusals, issued as issuedOf};
 ghost use Rattle.rules.specs.Step.{issue as issueStep};
 ghost use Rattle.oneorder.specs.OneOrder.{hasItem};
 ghost use Rattle.orders.specs.Rows.{SetOf};
-ghost use Rattle.machine.specs.Shown.{nameOf, namesOf, placeOf, shownValue, shownEntry, shown, Acts};
+ghost use Rattle.machine.specs.Shown.{nameOf, namesOf, placeOf, shownValue, shownEntry, shown, Presets, Acts};
 ghost use Rattle.machine.specs.Given.{Accepted, Showing};
-ghost use Rattle.issuing.specs.Issued.{assignedBy, placeBy, fresh, after, Ordered, Entering};
-ghost use Rattle.issuing.specs.Given.{Joining, Binding, Asking, Renaming, Renamed};
+ghost use Rattle.issuing.specs.Issued.{assignedBy, placeBy, after, Bound, Ordered, KeptBy, Entering};
+ghost use Rattle.issuing.specs.Given.{Joining, Keeping, Binding, Asking, Renaming, Renamed};
 
 // Whether the entry has an item in the order.
 fn has_item(e: Entry) -> bool
@@ -60,14 +60,14 @@ fn initial_writes(e: Entry) -> u64
 }
 
 // The items that a new one of processor p stands after: some initial writes, and all earlier items of p.
-fn earlier(acts: [Entry; 48], issued: usize, p: usize, writes: u64) -> u64
-    requires { ⌜ (issued ≤ 48) × (length acts ≡ 48) ⌝ }
-    ensures { λ r. ⌜ ((c : TheCase) (s : State) (new : Action) → Acts c issued acts s → SetOf 8 (λ l. standsAt l new) writes → SetOf (8 + issued) (after p new s) r) ⌝ }
+fn earlier(acts: &[u64; 48], issued: usize, p: usize, writes: u64) -> u64
+    requires { ⌜ issued ≤ 48 ⌝ }
+    ensures { λ r. ⌜ ((c : TheCase) (s : State) (new : Action) → Acts c issued (now (acts .entry)) s → SetOf 8 (λ l. standsAt l new) writes → SetOf (8 + issued) (after p new s) r) ⌝ }
 {
     let mut items = writes;
     let mut k: usize = 0;
     while k < issued {
-        let e = acts[k];
+        let e = machine::entry_at(acts, k);
         let test = own(e, p);
         items = orders::with(items, 8 + k, test);
         k += 1;
@@ -76,9 +76,9 @@ fn earlier(acts: [Entry; 48], issued: usize, p: usize, writes: u64) -> u64
 }
 
 // The item of a new entry e of processor p joins the order.
-fn join_order(rows: &mut [u64; 56], acts: [Entry; 48], issued: usize, p: usize, e: Entry)
-    requires { ⌜ Joining issued acts (now rows) e ⌝ }
-    ensures { λ _. ⌜ Ordered issued acts p e (now (rows .entry)) (now (rows .exit)) ⌝ }
+fn join_order(rows: &mut [u64; 56], acts: &[u64; 48], issued: usize, p: usize, e: Entry)
+    requires { ⌜ Joining issued (now rows) e ⌝ }
+    ensures { λ _. ⌜ Ordered issued (now (acts .entry)) p e (now (rows .entry)) (now (rows .exit)) ⌝ }
 {
     if has_item(e) {
         let items = earlier(acts, issued, p, initial_writes(e));
@@ -173,36 +173,44 @@ fn name_at(names: &[u8; 32], n: usize) -> u8
 }
 
 // The location of a read or a write, from the name of its address register.
-fn location(c: Case, acts: [Entry; 48], issued: usize, i: Instr, first: u8) -> u8
-    requires { ⌜ (issued ≤ 48) × (length acts ≡ 48) ⌝ }
-    ensures { λ r. ⌜ ((s : State) → Acts c issued acts s → r ≡ cond (accesses (kind i)) (orZero (valueOf s (nameOf c first)) % 256) 0) ⌝ }
+fn location<'a>(
+    masks: &'a [u8; 4],
+    presets: &'a [u16; 32],
+    acts: &'a [u64; 48],
+    issued: usize,
+    i: Instr,
+    first: u8,
+) -> u8
+    requires { ⌜ issued ≤ 48 ⌝ }
+    ensures { λ r. ⌜ ((c : TheCase) (s : State) → Presets c (now (masks .entry)) (now (presets .entry)) → Acts c issued (now (acts .entry)) s → r ≡ cond (accesses (kind i)) (orZero (valueOf s (nameOf c first)) % 256) 0) ⌝ }
 {
     let k = rules::kind_of(i);
     if (k == 1) | (k == 2) {
-        let x = machine::or_zero(machine::named(c, acts, issued, first));
+        let x = machine::or_zero(machine::named(masks, presets, acts, issued, first));
         return (x % 256) as u8;
     }
     0
 }
 
 // A new entry of instruction i of processor p, its registers bound and its location fixed.
-fn new_entry(
-    c: Case,
-    names: &[u8; 32],
-    acts: [Entry; 48],
+fn new_entry<'a>(
+    masks: &'a [u8; 4],
+    presets: &'a [u16; 32],
+    names: &'a [u8; 32],
+    acts: &'a [u64; 48],
     issued: usize,
     p: usize,
     place: u8,
     i: Instr,
 ) -> Entry
-    requires { ⌜ Binding issued acts (now names) p i ⌝ }
-    ensures { λ r. ⌜ ((s : State) → Acts c issued acts s → s .names ≡ namesOf c (now (names .entry)) → shownEntry c r ≡ fresh s p place i) ⌝ }
+    requires { ⌜ Binding issued (now names) p i ⌝ }
+    ensures { λ r. ⌜ Bound (now (masks .entry)) (now (presets .entry)) (now (names .entry)) (now (acts .entry)) issued p place i r ⌝ }
 {
     let a = words::wide(first_read(i));
     let b = words::wide(second_read(i));
     let first = name_at(names, 8 * p + a);
     let second = name_at(names, 8 * p + b);
-    let loc = location(c, acts, issued, i, first);
+    let loc = location(masks, presets, acts, issued, i, first);
     Entry {
         instr: i,
         proc: (p % 256) as u8,
@@ -236,12 +244,12 @@ pub fn issue_code<'a>(
     c: Case,
     places: &'a [u8; 4],
     names: &'a [u8; 32],
-    acts: [Entry; 48],
+    acts: &'a [u64; 48],
     issued: usize,
     p: usize,
 ) -> u8
-    requires { ⌜ Asking c issued acts (now names) p ⌝ }
-    ensures { λ r. ⌜ ((s : State) → Acts c issued acts s → s .places p ≡ placeOf (getD (now (places .entry)) p 0) → s .names ≡ namesOf c (now (names .entry)) → r ≡ firstOf (issueRefusals c s p)) ⌝ }
+    requires { ⌜ Asking c issued (now names) p ⌝ }
+    ensures { λ r. ⌜ ((s : State) → Acts c issued (now (acts .entry)) s → s .places p ≡ placeOf (getD (now (places .entry)) p 0) → s .names ≡ namesOf c (now (names .entry)) → r ≡ firstOf (issueRefusals c s p)) ⌝ }
 {
     let place = places[p];
     if place == 255 {
@@ -256,7 +264,8 @@ pub fn issue_code<'a>(
     let s = c.code[12 * p + words::wide(place)];
     let i = s.instr;
     let a = words::wide(first_read(i));
-    let v = machine::named(c, acts, issued, name_at(names, 8 * p + a));
+    let name = name_at(names, 8 * p + a);
+    let v = machine::named(&c.masks, &c.presets, acts, issued, name);
     address_code(i, v, c.locs)
 }
 
@@ -273,18 +282,40 @@ fn renamed(names: [u8; 32], p: usize, i: Instr, k: usize) -> [u8; 32]
     n
 }
 
+// The item of entry e, the new action k, joins the sets that it is of.
+fn join_sets(sets: &mut [u64; 21], k: usize, e: Entry)
+    requires { ⌜ Keeping (now sets) k e ⌝ }
+    ensures { λ _. ⌜ KeptBy k e (now (sets .entry)) (now (sets .exit)) ⌝ }
+{
+    let i = e.instr;
+    let item = 8 + k;
+    let kind = words::wide(rules::kind_of(i));
+    let proc = words::wide(e.proc);
+    let loc = words::wide(e.loc);
+    let done = e.done;
+    let writes = orders::with(sets[loc], item, kind == 2);
+    let kinds = orders::with(sets[8 + kind], item, true);
+    let queue = orders::with(sets[16 + proc], item, !done);
+    let given = orders::with(sets[20], item, done);
+    sets[loc] = writes;
+    sets[8 + kind] = kinds;
+    sets[16 + proc] = queue;
+    sets[20] = given;
+}
+
 // Enters e, the action of an issue of processor p that nothing refuses; the names are those after it.
 fn enter(c: Case, m: Machine, p: usize, e: Entry, names: [u8; 32]) -> Machine
     requires { ⌜ Entering c m p e names ⌝ }
     ensures { λ r. ⌜ Showing c (issuedOf c (shown c m) p) r ⌝ }
 {
     let k = m.issued;
-    let acts = m.acts;
     let i = e.instr;
     let place = place_after(i, e.place);
+    let word = machine::packed(e);
     let mut n = m;
-    join_order(&mut n.rows, acts, k, p, e);
-    n.acts[k] = e;
+    join_order(&mut n.rows, &m.acts, k, p, e);
+    join_sets(&mut n.sets, k, e);
+    n.acts[k] = word;
     n.issued = k + 1;
     n.places[p] = place;
     n.names = names;
@@ -297,12 +328,11 @@ pub fn issue(c: Case, m: Machine, p: usize) -> Machine
     ensures { λ r. ⌜ Showing c (issuedOf c (shown c m) p) r ⌝ }
 {
     let issued = m.issued;
-    let acts = m.acts;
     let place = m.places[p];
     let s = c.code[12 * p + words::wide(place)];
     let i = s.instr;
     let old = m.names;
     let new = renamed(old, p, i, issued);
-    let e = new_entry(c, &old, acts, issued, p, place, i);
+    let e = new_entry(&c.masks, &c.presets, &old, &m.acts, issued, p, place, i);
     enter(c, m, p, e, new)
 }

@@ -1,9 +1,10 @@
 -- What the tests of an entry say of its action. Assumes nothing.
 use mathlib.Core.Path.{_≡_, refl, sym, _∙_, ap}
 use mathlib.Core.Bool.{Bool, true, false, cond, not, _&&_}
-use Prim.Native.Nat.{ℕ, suc, _+_}
+use Prim.Native.Nat.{ℕ, suc, _+_, _<_}
 use native.Mathlib.Omega.{arith}
-use lib.Dec.{eqb}
+use lib.Dec.{eqb, ltb}
+use borrow.Author.Tests.{lt-ltb}
 use Rattle.words.specs.Small.{isNone, any, someBelow}
 use Rattle.words.proofs.Bools.{or-nothing, below-same}
 use Rattle.cases.specs.declared.Case.{Case}
@@ -14,7 +15,7 @@ use Rattle.rules.specs.State.{State, Action, kindOf, waiting, valueOf, inputOf}
 use Rattle.sure.specs.Futile.{acquires, futile}
 use Rattle.machine.specs.declared.Entry.{Entry}
 use Rattle.machine.specs.Shown.{optionOf, shownEntry}
-use Rattle.committing.specs.Committed.{holding}
+use Rattle.sights.specs.Sights.{holding}
 
 none-until : (done : Bool) (v : ℕ) → not done ≡ isNone (optionOf done v)
 none-until true v = refl
@@ -43,20 +44,11 @@ pub many-none : (f : ℕ → Bool) → 0 ≡ howMany 0 f
 unfolding howMany
 many-none f = refl
 
-pub many-next : (c : Case) (s : State) (n more x : ℕ) (e : Entry) → s .actions n ≡ shownEntry c e → more ≡ cond (e .done) 0 1 → x ≡ howMany n (λ j. isNone (s .actions j .result))
+pub many-next : (s : State) (n more x : ℕ) (w : Bool) → n < s .count → w ≡ (ltb n (s .count) && isNone (s .actions n .result)) → more ≡ cond w 1 0 → x ≡ howMany n (λ j. isNone (s .actions j .result))
     → more + x ≡ howMany (n + 1) (λ j. isNone (s .actions j .result))
 unfolding howMany
-many-next c s n more x e at hm hx = rw (add-one, hm, hx) (ap (λ (z : ℕ). z + howMany n (λ j. isNone (s .actions j .result))) (other (e .done) ∙ ap (λ (a : Action). one (isNone (a .result))) (sym at)))
+many-next s n more x w lt hw hm hx =
+    rw (add-one, hm, hx) (ap (λ (b : Bool). cond b 1 0 + howMany n (λ j. isNone (s .actions j .result))) (hw ∙ ap (λ (b : Bool). b && isNone (s .actions n .result)) (lt-ltb n (s .count) lt)))
   where
     add-one : n + 1 ≡ suc n
     add-one = omega arith
-
-    one : Bool → ℕ
-    one b = cond b 1 0
-
-    unless : Bool → ℕ
-    unless b = cond b 0 1
-
-    other : (b : Bool) → unless b ≡ one (isNone (optionOf b (e .result)))
-    other true = refl
-    other false = refl

@@ -16,7 +16,6 @@ use Rattle.runs.proofs.Reachable.{reachable-start}
 use Rattle.rules.specs.State.{State, initial}
 use Rattle.rules.specs.Womm.{womm}
 use Rattle.rules.proofs.Listing.{listing-exists}
-use Rattle.sure.specs.Spent.{Spent}
 use Rattle.sure.specs.Sure.{forward}
 use Rattle.sure.proofs.Reduce.{done-from}
 use Rattle.sure.proofs.Sweep.{told-outcomes, told-cut}
@@ -29,8 +28,8 @@ use Rattle.records.proofs.Closing.{listed, unlisted, filled-size, filled-more}
 use Rattle.spending.specs.Words.{spentBy}
 use Rattle.searching.specs.declared.Tally.{Tally}
 use Rattle.searching.specs.Ready.{Ready}
-use Rattle.searching.specs.Searched.{Tells, Searched}
-use Rattle.searching.proofs.Starts.{empty, ready-start, tells-nothing, told-fresh}
+use Rattle.searching.specs.Searched.{Tells, Searched, Explored}
+use Rattle.searching.proofs.Starts.{empty, ready-start, searched-start, tells-nothing, told-fresh}
 
 -- no clauses: every outcome is wanted
 all-wanted : (r : List ℕ) → wanted noClauses r ≡ true
@@ -39,15 +38,15 @@ all-wanted r = refl
 
 -- what the search is given
 pub ready-list : {c : Case} {m : Machine} {n : ℕ} {ahead : Bool} {asked : Asked} (size : ℕ) {zeros : List ℕ} → asked ≡ noClauses → shown c m ≡ initial c → Valid c m → ahead ≡ forward c → n ≤ 96 → zeros ≡ replicate size 0
-    → Ready c m n ahead asked (replicate 50 0) zeros empty
+    → Ready c m 3200 n ahead asked (replicate 50 0) zeros empty
 ready-list {c} {m} {n} {ahead} {asked} size {zeros} none shows valid forwards few cleared =
-    subst (λ (a : Asked). Ready c m n ahead a (replicate 50 0) zeros empty) (sym none) (ready-start size (subst (Reachable (womm c)) (sym shows) (reachable-start (womm c))) valid forwards few (omega arith, tt) cleared)
+    subst (λ (a : Asked). Ready c m 3200 n ahead a (replicate 50 0) zeros empty) (sym none) (ready-start size (subst (Reachable (womm c)) (sym shows) (reachable-start (womm c))) valid forwards few (omega arith, tt) cleared)
 
 -- the machine's start is that of the rules, and there are no clauses
-pub from-start : {c : Case} {asked : Asked} {s : State} {sp : Spent} {n : ℕ} {before bytes : List ℕ} {y z : Tally} → asked ≡ noClauses → s ≡ initial c → Searched c (wanted asked) sp s n before y bytes z
-    → Searched c (wanted noClauses) sp (initial c) n before y bytes z
-from-start {c} {asked} {s} {sp} {n} {before} {bytes} {y} {z} none e D =
-    subst (λ (s : State). Searched c (wanted noClauses) sp s n before y bytes z) e (subst (λ (a : Asked). Searched c (wanted a) sp s n before y bytes z) none D)
+pub from-start : {c : Case} {asked : Asked} {s : State} {spent : List ℕ} {n : ℕ} {before bytes : List ℕ} {y z : Tally} → asked ≡ noClauses → s ≡ initial c → Explored c (wanted asked) s 3200 spent n before y bytes z
+    → Searched c (wanted noClauses) (spentBy spent) (initial c) n before y bytes z
+from-start {c} {asked} {s} {spent} {n} {before} {bytes} {y} {z} none e D =
+    subst (λ (s : State). Searched c (wanted noClauses) (spentBy spent) s n before y bytes z) e (subst (λ (a : Asked). Searched c (wanted a) (spentBy spent) s n before y bytes z) none (searched-start D))
 
 -- a search from the start over a cleared buffer
 module _ (c : Case) (n size : ℕ) {zeros : List ℕ} (cleared : zeros ≡ replicate size 0) {bytes : List ℕ} {z : Tally}

@@ -32,6 +32,7 @@ fn search(c: Case, n: usize, out: &mut [u8]) -> Answer
     ensures { λ r. ⌜ Found c n (length (now (out .entry))) r (now (out .exit)) ⌝ }
 {
     records::clear(out);
+    let fresh = [0u64; 50];
     let empty = Tally {
         count: 0,
         cut: false,
@@ -40,10 +41,11 @@ fn search(c: Case, n: usize, out: &mut [u8]) -> Answer
     let found = searching::explore(
         c,
         machine::start(c),
+        3200,
         n,
         choices::forward(c),
         clauses::no_clauses(),
-        [0u64; 50],
+        &fresh,
         out,
         empty,
     );

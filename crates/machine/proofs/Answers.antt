@@ -5,13 +5,15 @@ use mathlib.Core.Bool.{Bool, true, false, not, _&&_, false≢true}
 use mathlib.Core.List.{List}
 use mathlib.Core.Option.{Option, none, some}
 use Prim.Native.Nat.{ℕ, zero, suc, _+_, _*_, _/_, _%_, _≤_, _<_}
+use native.Mathlib.Nat.{add-zero}
 use native.Mathlib.Omega.{arith}
 use lib.Dec.{eqb}
-use lib.ListN.{length, getD}
+use lib.ListN.{length, getD, set, length-set}
 use lib.Seq.{ext-getD}
 use borrow.Author.Tests.{lt-ltb, le-ltb, eqb-true, ne-eqb}
 use Rattle.words.specs.Small.{is, counting, concatMap, someBelow}
 use Rattle.words.proofs.Bools.{decide}
+use Rattle.words.proofs.Lists.{filled-more}
 use Rattle.cases.specs.declared.Case.{Case}
 use Rattle.cases.specs.Case.{countOf}
 use Rattle.rules.specs.State.{State, valueOf, waiting}
@@ -45,7 +47,7 @@ module _ (c : Case) (s : State) where
   unfolding registers
   registers-long = blocks-long row 24 row-long 4
 
-  pub register-at : (i : ℕ) → i < 96 → getD (registers c s) i 0 ≡ getD (registerBytes (registerOf c s (i / 3 / 8) (i / 3 % 8))) (i % 3) 0
+  register-at : (i : ℕ) → i < 96 → getD (registers c s) i 0 ≡ getD (registerBytes (registerOf c s (i / 3 / 8) (i / 3 % 8))) (i % 3) 0
   unfolding registers
   register-at i h =
       let q : i ≡ 24 * (i / 3 / 8) + (3 * (i / 3 % 8) + i % 3) = omega arith in
@@ -55,6 +57,30 @@ module _ (c : Case) (s : State) where
 
   pub registers-are : (out : List ℕ) → length out ≡ 96 → ((j : ℕ) → j < 96 → getD out j 0 ≡ getD (registers c s) j 0) → out ≡ registers c s
   registers-are out long h = ext-getD 0 out (registers c s) (long ∙ sym registers-long) (λ i lt. h i (omega arith))
+
+  -- three bytes more, those of register n
+  pub three-more : (out : List ℕ) (n x y z : ℕ) (o : Option ℕ) → n < 32 → length out ≡ 96 → o ≡ registerOf c s (n / 8) (n % 8) → x ≡ getD (registerBytes o) 0 0 → y ≡ getD (registerBytes o) 1 0 → z ≡ getD (registerBytes o) 2 0
+      → ((j : ℕ) → j < 3 * n → getD out j 0 ≡ getD (registers c s) j 0)
+      → (length (set (set (set out (3 * n) x) (3 * n + 1) y) (3 * n + 2) z) ≡ 96) × ((j : ℕ) → j < 3 * (n + 1) → getD (set (set (set out (3 * n) x) (3 * n + 1) y) (3 * n + 2) z) j 0 ≡ getD (registers c s) j 0)
+  three-more out n x y z o low long ho hx hy hz h =
+      let a = length-set out (3 * n) x ∙ long in
+      let b = length-set (set out (3 * n) x) (3 * n + 1) y ∙ a in
+      let f = filled-more bytes 0 out (3 * n) x (omega arith) (hx ∙ byte 0 (omega arith) ∙ ap bytes (add-zero (3 * n))) h in
+      let g = filled-more bytes 0 (set out (3 * n) x) (3 * n + 1) y (omega arith) (hy ∙ byte 1 (omega arith)) f in
+      let k = filled-more bytes 0 (set (set out (3 * n) x) (3 * n + 1) y) (3 * n + 2) z (omega arith) (hz ∙ byte 2 (omega arith)) (λ j l. g j (omega arith)) in
+      (length-set (set (set out (3 * n) x) (3 * n + 1) y) (3 * n + 2) z ∙ b, λ j l. k j (omega arith))
+    where
+      bytes : ℕ → ℕ
+      bytes j = getD (registers c s) j 0
+
+      at : (j : ℕ) → j < 3 → getD (registerBytes (registerOf c s (n / 8) (n % 8))) j 0 ≡ getD (registers c s) (3 * n + j) 0
+      at j l =
+          let q : (3 * n + j) / 3 ≡ n = omega arith in
+          let t : (3 * n + j) % 3 ≡ j = omega arith in
+          sym (register-at (3 * n + j) (omega arith) ∙ rw (q, t))
+
+      byte : (j : ℕ) → j < 3 → getD (registerBytes o) j 0 ≡ getD (registers c s) (3 * n + j) 0
+      byte j l = ap (λ (q : Option ℕ). getD (registerBytes q) j 0) ho ∙ at j l
 
   pub register-absent : (p k : ℕ) → c .procs ≤ p → none ≡ registerOf c s p k
   register-absent p k h = rw (le-ltb p (c .procs) h)

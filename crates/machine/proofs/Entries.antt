@@ -11,10 +11,10 @@ use borrow.Author.Tests.{lt-ltb, le-ltb}
 use Rattle.words.specs.Small.{isNone, is}
 use Rattle.words.specs.Sets.{has}
 use Rattle.cases.specs.declared.Case.{Case}
-use Rattle.cases.specs.Case.{presetOf, wordOf}
+use Rattle.cases.specs.Case.{presetOf}
 use Rattle.rules.specs.State.{State, Action, unissued, valueOf, itemValue}
-use Rattle.machine.specs.declared.Entry.{Entry}
-use Rattle.machine.specs.Shown.{nameOf, namesOf, optionOf, shownEntry, blankEntry, Acts}
+use Rattle.machine.specs.Word.{entryOf}
+use Rattle.machine.specs.Shown.{nameOf, namesOf, optionOf, shownEntry, Presets, Acts}
 
 pub none-option : (known : Bool) (v : ℕ) → not known ≡ isNone (optionOf known v)
 none-option true v = refl
@@ -24,11 +24,11 @@ pub is-option : (n : ℕ) (known : Bool) (v : ℕ) → (known && eqb v n) ≡ is
 is-option n true v = refl
 is-option n false v = refl
 
-pub preset-at : (c : Case) (n : ℕ) (known : Bool) → known ≡ has (getD (c .masks) (n / 8) 0) (n % 8) → optionOf known (getD (c .presets) n 0) ≡ presetOf c (n / 8) (n % 8)
-preset-at c n known h = let q : 8 * (n / 8) + n % 8 ≡ n = omega arith in rw (h, q)
+pub preset-at : (c : Case) (masks presets : List ℕ) (n : ℕ) (known : Bool) → Presets c masks presets → known ≡ has (getD masks (n / 8) 0) (n % 8) → optionOf known (getD presets n 0) ≡ presetOf c (n / 8) (n % 8)
+preset-at c masks presets n known q h = let e : 8 * (n / 8) + n % 8 ≡ n = omega arith in rw (h, q .masks, q .presets, e)
 
-module _ (c : Case) (n : ℕ) (acts : List Entry) (s : State) (a : Acts c n acts s) where
-  pub action-at : (k : ℕ) → k < n → s .actions k ≡ shownEntry c (getD acts k blankEntry)
+module _ (c : Case) (n : ℕ) (acts : List ℕ) (s : State) (a : Acts c n acts s) where
+  pub action-at : (k : ℕ) → k < n → s .actions k ≡ shownEntry c (entryOf (getD acts k 0))
   action-at k h = ap (λ (f : ℕ → Action). f k) (a .actions) ∙ rw (lt-ltb k n h)
 
   pub action-out : (k : ℕ) → n ≤ k → s .actions k ≡ unissued
@@ -41,8 +41,8 @@ module _ (c : Case) (s : State) where
   pub name-given : (n : ℕ) → 32 ≤ n → valueOf s (nameOf c n) ≡ s .actions (n - 32) .result
   name-given n h = rw (le-ltb n 32 h)
 
-  pub item-start : (e : ℕ) → e < 8 → itemValue c s e ≡ some (wordOf c e)
-  item-start e h = rw (lt-ltb e 8 h)
+  pub item-start : (memory : List ℕ) (e : ℕ) → c .memory ≡ memory → e < 8 → itemValue c s e ≡ some (getD memory e 0)
+  item-start memory e q h = rw (lt-ltb e 8 h, q)
 
   pub item-given : (e : ℕ) → 8 ≤ e → itemValue c s e ≡ s .actions (e - 8) .result
   item-given e h = rw (le-ltb e 8 h)

@@ -1,3 +1,4 @@
+pub mod Packing
 pub mod Entries
 pub mod Items
 pub mod Stores

@@ -13,7 +13,8 @@ use Rattle.words.specs.Small.{put}
 use Rattle.words.proofs.Bools.{decide}
 use Rattle.cases.specs.declared.Case.{Case}
 use Rattle.machine.specs.declared.Entry.{Entry}
-use Rattle.machine.specs.Shown.{shownEntry, blankEntry, actionsOf, placeOf}
+use Rattle.machine.specs.Word.{entryOf}
+use Rattle.machine.specs.Shown.{shownEntry, actionsOf, placeOf}
 
 -- seen through f
 pub set-put : {A B : Type 0} (f : A → B) (l : List A) (d : A) (p : ℕ) (v : A) (w : B) → p < length l → f v ≡ w → (λ (q : ℕ). f (getD (set l p v) q d)) ≡ put (λ (q : ℕ). f (getD l q d)) p w
@@ -28,25 +29,29 @@ set-put f l d p v w h e = fun-ext at
         other : eqb q p ≡ false → f (getD (set l p v) q d) ≡ cond (eqb q p) w (f (getD l q d))
         other x = rw x (ap f (getD-set-other l p q v d (eqb-false q p x)))
 
--- what holds of the elements below n
-pub set-all : {A : Type 0} (Q : A → Type 0) (l : List A) (d : A) (n p : ℕ) (v : A) → p < length l → Q v → ((q : ℕ) → q < n → (q ≡ p → ⊥) → Q (getD l q d)) → (q : ℕ) → q < n → Q (getD (set l p v) q d)
-set-all Q l d n p v h new old q lt = ⊎-elim
-    (λ x. subst Q (sym (ap (λ (y : ℕ). getD (set l p v) y d) (eqb-true q p x) ∙ getD-set-same l p v d h)) new)
-    (λ x. subst Q (sym (getD-set-other l p q v d (eqb-false q p x))) (old q lt (eqb-false q p x)))
+-- what holds of one element
+pub set-at : {A : Type 0} (Q : A → Type 0) (l : List A) (d : A) (p q : ℕ) (v : A) → p < length l → (q ≡ p → Q v) → ((q ≡ p → ⊥) → Q (getD l q d)) → Q (getD (set l p v) q d)
+set-at Q l d p q v h new old = ⊎-elim
+    (λ x. subst Q (sym (ap (λ (y : ℕ). getD (set l p v) y d) (eqb-true q p x) ∙ getD-set-same l p v d h)) (new (eqb-true q p x)))
+    (λ x. subst Q (sym (getD-set-other l p q v d (eqb-false q p x))) (old (eqb-false q p x)))
     (decide (eqb q p))
 
--- the actions, where entry k of the first n becomes e
-pub actions-set : (c : Case) (m n k : ℕ) (acts : List Entry) (e : Entry) → k < n → k < length acts → ((j : ℕ) → (j ≡ k → ⊥) → ltb j n ≡ ltb j m) → actionsOf c n (set acts k e) ≡ put (actionsOf c m acts) k (shownEntry c e)
-actions-set c m n k acts e lt long same = fun-ext at
+-- what holds of the elements below n
+pub set-all : {A : Type 0} (Q : A → Type 0) (l : List A) (d : A) (n p : ℕ) (v : A) → p < length l → Q v → ((q : ℕ) → q < n → (q ≡ p → ⊥) → Q (getD l q d)) → (q : ℕ) → q < n → Q (getD (set l p v) q d)
+set-all Q l d n p v h new old q lt = set-at Q l d p q v h (λ e. new) (old q lt)
+
+-- the actions, where word k of the first n becomes w
+pub actions-set : (c : Case) (m n k : ℕ) (acts : List ℕ) (w : ℕ) (e : Entry) → entryOf w ≡ e → k < n → k < length acts → ((j : ℕ) → (j ≡ k → ⊥) → ltb j n ≡ ltb j m) → actionsOf c n (set acts k w) ≡ put (actionsOf c m acts) k (shownEntry c e)
+actions-set c m n k acts w e holds lt long same = fun-ext at
   where
-    at : (j : ℕ) → actionsOf c n (set acts k e) j ≡ put (actionsOf c m acts) k (shownEntry c e) j
+    at : (j : ℕ) → actionsOf c n (set acts k w) j ≡ put (actionsOf c m acts) k (shownEntry c e) j
     at j = ⊎-elim here there (decide (eqb j k))
       where
-        here : eqb j k ≡ true → actionsOf c n (set acts k e) j ≡ put (actionsOf c m acts) k (shownEntry c e) j
-        here h = rw h (ap (actionsOf c n (set acts k e)) (eqb-true j k h) ∙ rw (lt-ltb k n lt, getD-set-same acts k e blankEntry long))
+        here : eqb j k ≡ true → actionsOf c n (set acts k w) j ≡ put (actionsOf c m acts) k (shownEntry c e) j
+        here h = rw h (ap (actionsOf c n (set acts k w)) (eqb-true j k h) ∙ rw (lt-ltb k n lt, getD-set-same acts k w 0 long, holds))
 
-        there : eqb j k ≡ false → actionsOf c n (set acts k e) j ≡ put (actionsOf c m acts) k (shownEntry c e) j
-        there h = rw (h, same j (eqb-false j k h), getD-set-other acts k j e blankEntry (eqb-false j k h))
+        there : eqb j k ≡ false → actionsOf c n (set acts k w) j ≡ put (actionsOf c m acts) k (shownEntry c e) j
+        there h = rw (h, same j (eqb-false j k h), getD-set-other acts k j w 0 (eqb-false j k h))
 
 pub place-some : (n : ℕ) → (n ≡ 255 → ⊥) → placeOf n ≡ some n
 place-some n h = rw (ne-eqb n 255 h)

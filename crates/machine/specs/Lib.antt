@@ -1,4 +1,6 @@
-pub mod Shown
 pub mod Fit
+pub mod Word
+pub mod Shown
+pub mod Kept
 pub mod Valid
 pub mod Given

@@ -1,13 +1,12 @@
 -- What the machine's arrays show: a state of the rules. Assumes nothing.
 use mathlib.Core.Path.{_≡_}
-use mathlib.Core.Bool.{Bool, false, _&&_, cond}
+use mathlib.Core.Bool.{Bool, _&&_, cond}
 use mathlib.Core.List.{List, [], _∷_}
 use mathlib.Core.Option.{Option, none, some}
 use Prim.Native.Nat.{ℕ, _+_, _*_, _-_, _/_, _%_}
 use lib.Dec.{eqb, ltb}
 use lib.ListN.{getD}
 use Rattle.cases.specs.declared.Case.{Case}
-use Rattle.cases.specs.declared.Instr.the-variants.{Empty}
 use Rattle.cases.specs.Case.{presetOf}
 use Rattle.rules.specs.Kinds.{reads}
 use Rattle.rules.specs.State.{Name, start, given, Action, State, unissued}
@@ -17,6 +16,7 @@ use Rattle.orders.specs.Rows.{orderOf}
 use Rattle.machine.specs.declared.Entry.{Entry}
 use Rattle.machine.specs.declared.Value.{Value}
 use Rattle.machine.specs.declared.Machine.{Machine}
+use Rattle.machine.specs.Word.{entryOf}
 
 -- A name as a number: below 32 what a register held at the start, that of register k of processor p at 8p + k; from 32 on what an action gives.
 abbrev pub nameOf : Case → ℕ → Name
@@ -46,13 +46,9 @@ shownEntry c e =
       result = optionOf (e .done) (e .result);
     }
 
--- The entry of no action.
-abbrev pub blankEntry : Entry
-blankEntry = record { instr = Empty; proc = 0; place = 0; first = 0; second = 0; loc = 0; done = false; result = 0 }
-
--- The actions of the first n entries.
-abbrev pub actionsOf : Case → ℕ → List Entry → ℕ → Action
-actionsOf c n acts k = cond (ltb k n) (shownEntry c (getD acts k blankEntry)) unissued
+-- The actions of the first n words.
+abbrev pub actionsOf : Case → ℕ → List ℕ → ℕ → Action
+actionsOf c n acts k = cond (ltb k n) (shownEntry c (entryOf (getD acts k 0))) unissued
 
 -- A place counter: 255 is undefined.
 abbrev pub placeOf : ℕ → Option ℕ
@@ -86,7 +82,12 @@ shown c m = view c (shownOne c m)
 abbrev pub ordersOf : Case → (ℕ → Action) → List ℕ → ℕ → Order
 ordersOf c A rows l a b = ltb l (c .locs) && limited A l (orderOf rows) a b
 
--- The state s has the first n entries as its actions.
-pub record Acts (c : Case) (n : ℕ) (acts : List Entry) (s : State) : Type 0 where
+-- The case has these presets.
+pub record Presets (c : Case) (m p : List ℕ) : Type 0 where
+  pub masks : c .masks ≡ m
+  pub presets : c .presets ≡ p
+
+-- The state s has the first n words as its actions.
+pub record Acts (c : Case) (n : ℕ) (acts : List ℕ) (s : State) : Type 0 where
   pub count : s .count ≡ n
   pub actions : s .actions ≡ actionsOf c n acts

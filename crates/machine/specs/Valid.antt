@@ -10,8 +10,10 @@ use Rattle.rules.specs.Kinds.{kind, accesses}
 use Rattle.oneorder.specs.OneOrder.{wommOne}
 use Rattle.machine.specs.declared.Entry.{Entry}
 use Rattle.machine.specs.declared.Machine.{Machine}
-use Rattle.machine.specs.Shown.{blankEntry, shownOne}
+use Rattle.machine.specs.Word.{entryOf}
+use Rattle.machine.specs.Shown.{shownOne, shown}
 use Rattle.machine.specs.Fit.{Fine, Fit}
+use Rattle.machine.specs.Kept.{Kept}
 
 pub record ValidEntry (c : Case) (e : Entry) : Type 0 where
   pub fine : Fine (e .instr)
@@ -32,6 +34,8 @@ pub record Valid (c : Case) (m : Machine) : Type 0 where
   pub holders-long : length (m .holders) ≡ 8
   pub rows-long : length (m .rows) ≡ 56
   pub places : (p : ℕ) → p < 4 → ValidPlace (getD (m .places) p 0)
-  pub entries : (k : ℕ) → k < m .issued → ValidEntry c (getD (m .acts) k blankEntry)
+  pub names : (n : ℕ) → n < 32 → getD (m .names) n 0 < 80
+  pub entries : (k : ℕ) → k < m .issued → ValidEntry c (entryOf (getD (m .acts) k 0))
+  pub kept : Kept c (shown c m) (m .sets)
   -- by accepted steps, of the rules with one order
   pub reached : Reachable (wommOne c) (shownOne c m)

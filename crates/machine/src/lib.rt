@@ -1,16 +1,20 @@
 // The machine in arrays: its actions, one order and locks; its start, and what its registers and queues hold.
+mod word;
+
 use cases::Case;
 use cases::Instr;
+pub use word::entry_at;
+pub use word::kind_at;
+pub use word::packed;
 ghost use mathlib.Core.Path.{_≡_};
-ghost use mathlib.Core.Bool.{Bool};
-ghost use Prim.Native.Nat.{ℕ, _/_, _%_, _≤_, _<_};
-ghost use lib.ListN.{length, getD};
+ghost use Prim.Native.Nat.{_/_, _%_, _≤_, _<_};
+ghost use lib.ListN.{getD};
 ghost use Rattle.cases.specs.declared.Case.{Case as TheCase};
 ghost use Rattle.cases.specs.Case.{presetOf};
-ghost use Rattle.words.specs.Small.{orZero, someBelow};
+ghost use Rattle.words.specs.Small.{orZero};
 ghost use Rattle.rules.specs.State.{State, initial, valueOf, itemValue, waiting};
 ghost use Rattle.rules.specs.Result.{finished as isFinished, registerBytes, registerOf, registers as registersOf};
-ghost use Rattle.machine.specs.Shown.{nameOf, shownValue, shownEntry, blankEntry, shown, Acts};
+ghost use Rattle.machine.specs.Shown.{nameOf, shownValue, shownEntry, shown, Presets, Acts};
 ghost use Rattle.machine.specs.Fit.{Fit};
 ghost use Rattle.machine.specs.Valid.{Valid};
 
@@ -26,14 +30,16 @@ pub struct Entry {
     pub result: u16,
 }
 
-// Register k of processor p has its name at 8p + k; row b has the items that stand before item b.
+// Register k of processor p has its name at 8p + k, each word of acts holds an entry, row b has the items that stand before item b.
+// Sets of items are kept ready: 0 to 7 the write items of each location, 8 to 15 the items of each kind, 16 to 19 the queue of each processor, 20 the items that have their value.
 pub struct Machine {
     pub issued: usize,
     pub places: [u8; 4],
     pub names: [u8; 32],
     pub holders: [u8; 8],
-    pub acts: [Entry; 48],
+    pub acts: [u64; 48],
     pub rows: [u64; 56],
+    pub sets: [u64; 21],
 }
 
 // A value, where it is known.
@@ -53,12 +59,12 @@ pub fn or_zero(v: Value) -> u16
 }
 
 // What action k gives.
-fn value_at(acts: [Entry; 48], issued: usize, k: usize) -> Value
-    requires { ⌜ (issued ≤ 48) × (length acts ≡ 48) ⌝ }
-    ensures { λ r. ⌜ ((c : TheCase) (s : State) → Acts c issued acts s → shownValue r ≡ s .actions k .result) ⌝ }
+fn value_at(acts: &[u64; 48], issued: usize, k: usize) -> Value
+    requires { ⌜ issued ≤ 48 ⌝ }
+    ensures { λ r. ⌜ ((c : TheCase) (s : State) → Acts c issued (now (acts .entry)) s → shownValue r ≡ s .actions k .result) ⌝ }
 {
     if k < issued {
-        let e = acts[k];
+        let e = entry_at(acts, k);
         return Value {
             known: e.done,
             value: e.result,
@@ -71,39 +77,45 @@ fn value_at(acts: [Entry; 48], issued: usize, k: usize) -> Value
 }
 
 // What register n, counted over all processors, starts with.
-pub fn preset_of(c: Case, n: usize) -> Value
+pub fn preset_of<'a>(masks: &'a [u8; 4], presets: &'a [u16; 32], n: usize) -> Value
     requires { ⌜ n < 32 ⌝ }
-    ensures { λ r. ⌜ shownValue r ≡ presetOf c (n / 8) (n % 8) ⌝ }
+    ensures { λ r. ⌜ ((c : TheCase) → Presets c (now (masks .entry)) (now (presets .entry)) → shownValue r ≡ presetOf c (n / 8) (n % 8)) ⌝ }
 {
-    let mask = c.masks[n / 8] as u64;
+    let mask = words::wide(masks[n / 8]) as u64;
     let known = words::has(mask, n % 8);
     Value {
         known,
-        value: c.presets[n],
+        value: presets[n],
     }
 }
 
 // The value that a name stands for.
-pub fn named(c: Case, acts: [Entry; 48], issued: usize, name: u8) -> Value
-    requires { ⌜ (issued ≤ 48) × (length acts ≡ 48) ⌝ }
-    ensures { λ r. ⌜ ((s : State) → Acts c issued acts s → shownValue r ≡ valueOf s (nameOf c name)) ⌝ }
+pub fn named<'a>(
+    masks: &'a [u8; 4],
+    presets: &'a [u16; 32],
+    acts: &'a [u64; 48],
+    issued: usize,
+    name: u8,
+) -> Value
+    requires { ⌜ issued ≤ 48 ⌝ }
+    ensures { λ r. ⌜ ((c : TheCase) (s : State) → Presets c (now (masks .entry)) (now (presets .entry)) → Acts c issued (now (acts .entry)) s → shownValue r ≡ valueOf s (nameOf c name)) ⌝ }
 {
     let n = words::wide(name);
     if n < 32 {
-        return preset_of(c, n);
+        return preset_of(masks, presets, n);
     }
     value_at(acts, issued, n - 32)
 }
 
 // The value of an item.
-pub fn item_value(c: Case, acts: [Entry; 48], issued: usize, e: usize) -> Value
-    requires { ⌜ (issued ≤ 48) × (length acts ≡ 48) ⌝ }
-    ensures { λ r. ⌜ ((s : State) → Acts c issued acts s → shownValue r ≡ itemValue c s e) ⌝ }
+pub fn item_value<'a>(memory: &'a [u16; 8], acts: &'a [u64; 48], issued: usize, e: usize) -> Value
+    requires { ⌜ issued ≤ 48 ⌝ }
+    ensures { λ r. ⌜ ((c : TheCase) (s : State) → c .memory ≡ now (memory .entry) → Acts c issued (now (acts .entry)) s → shownValue r ≡ itemValue c s e) ⌝ }
 {
     if e < 8 {
         return Value {
             known: true,
-            value: c.memory[e],
+            value: memory[e],
         };
     }
     value_at(acts, issued, e - 8)
@@ -117,53 +129,43 @@ pub fn queued(e: Entry, p: usize) -> bool
     (proc == p) & !e.done
 }
 
-// Whether processor p has a queued action.
-fn busy(acts: [Entry; 48], issued: usize, p: usize) -> bool
-    requires { ⌜ (issued ≤ 48) × (length acts ≡ 48) ⌝ }
-    ensures { λ r. ⌜ ((c : TheCase) (s : State) → Acts c issued acts s → r ≡ someBelow (s .count) (λ k. waiting p (s .actions k))) ⌝ }
-{
-    let mut found = false;
-    let mut k: usize = 0;
-    while k < issued {
-        let e = acts[k];
-        let w = queued(e, p);
-        found = w | found;
-        k += 1;
-    }
-    found
-}
-
 // Whether every queue is empty and every place counter at its processor's count.
 pub fn finished(c: Case, m: Machine) -> bool
     requires { ⌜ Valid c m ⌝ }
     ensures { λ r. ⌜ r ≡ isFinished c (shown c m) ⌝ }
 {
-    let acts = m.acts;
-    let issued = m.issued;
     let top = words::wide(c.procs);
     let mut all = true;
     let mut p: usize = 0;
     while p < top {
-        let b = busy(acts, issued, p);
+        let idle = m.sets[16 + p] == 0;
         let there = m.places[p] == c.counts[p];
-        all = all & (!b & there);
+        all = all & (idle & there);
         p += 1;
     }
     all
 }
 
 // What register n, counted over all processors, holds; that of an absent processor nothing.
-fn register(c: Case, names: &[u8; 32], acts: [Entry; 48], issued: usize, n: usize) -> Value
-    requires { ⌜ (issued ≤ 48) × (length acts ≡ 48) × (n < 32) ⌝ }
-    ensures { λ r. ⌜ ((s : State) → Acts c issued acts s → s .names (n / 8) (n % 8) ≡ nameOf c (getD (now (names .entry)) n 0) → shownValue r ≡ registerOf c s (n / 8) (n % 8)) ⌝ }
+fn register<'a>(
+    procs: u8,
+    masks: &'a [u8; 4],
+    presets: &'a [u16; 32],
+    names: &'a [u8; 32],
+    acts: &'a [u64; 48],
+    issued: usize,
+    n: usize,
+) -> Value
+    requires { ⌜ (issued ≤ 48) × (n < 32) ⌝ }
+    ensures { λ r. ⌜ ((c : TheCase) (s : State) → c .procs ≡ procs → Presets c (now (masks .entry)) (now (presets .entry)) → Acts c issued (now (acts .entry)) s → s .names (n / 8) (n % 8) ≡ nameOf c (getD (now (names .entry)) n 0) → shownValue r ≡ registerOf c s (n / 8) (n % 8)) ⌝ }
 {
-    if words::wide(c.procs) <= n / 8 {
+    if words::wide(procs) <= n / 8 {
         return Value {
             known: false,
             value: 0,
         };
     }
-    named(c, acts, issued, names[n])
+    named(masks, presets, acts, issued, names[n])
 }
 
 // Byte j of the three of a register.
@@ -188,32 +190,18 @@ pub fn registers(c: Case, m: Machine) -> [u8; 96]
     requires { ⌜ Valid c m ⌝ }
     ensures { λ r. ⌜ r ≡ registersOf c (shown c m) ⌝ }
 {
-    let acts = m.acts;
+    let procs = c.procs;
     let issued = m.issued;
     let mut out = [0u8; 96];
-    let mut i: usize = 0;
-    while i < 96 {
-        let v = register(c, &m.names, acts, issued, i / 3);
-        out[i] = byte_of(v, i % 3);
-        i += 1;
+    let mut n: usize = 0;
+    while n < 32 {
+        let v = register(procs, &c.masks, &c.presets, &m.names, &m.acts, issued, n);
+        out[3 * n] = byte_of(v, 0);
+        out[3 * n + 1] = byte_of(v, 1);
+        out[3 * n + 2] = byte_of(v, 2);
+        n += 1;
     }
     out
-}
-
-// The entry of no action.
-fn blank() -> Entry
-    ensures { λ r. ⌜ r ≡ blankEntry ⌝ }
-{
-    Entry {
-        instr: Instr::Empty,
-        proc: 0,
-        place: 0,
-        first: 0,
-        second: 0,
-        loc: 0,
-        done: false,
-        result: 0,
-    }
 }
 
 // The name of each register at the start: its own number.
@@ -252,18 +240,43 @@ const FIRST: [u8; 32] = [
     31,
 ];
 
+// The sets at the start: each location's initial write, and the eight items that have their value.
+const READY: [u64; 21] = [
+    1,
+    2,
+    4,
+    8,
+    16,
+    32,
+    64,
+    128,
+    0,
+    0,
+    0,
+    0,
+    0,
+    0,
+    0,
+    0,
+    0,
+    0,
+    0,
+    0,
+    255,
+];
+
 // The machine before the first step.
 pub fn start(c: Case) -> Machine
     requires { ⌜ Fit c ⌝ }
     ensures { λ r. ⌜ (shown c r ≡ initial c) × Valid c r ⌝ }
 {
-    let e = blank();
     Machine {
         issued: 0,
         places: [0; 4],
         names: FIRST,
         holders: [0; 8],
-        acts: [e; 48],
+        acts: [0; 48],
         rows: [0; 56],
+        sets: READY,
     }
 }

@@ -1,5 +1,4 @@
 // Steps that need not be tried: a read's source whose value a spent one has, and reads that nothing looks at.
-use cases::Case;
 use machine::Entry;
 ghost use mathlib.Core.Path.{_≡_};
 ghost use mathlib.Core.Bool.{true, _&&_, _||_, not};
@@ -16,30 +15,45 @@ ghost use Rattle.orders.specs.Rows.{SetOf};
 ghost use Rattle.machine.specs.Shown.{nameOf, namesOf, shownEntry, Acts};
 ghost use Rattle.needless.specs.Echoes.{givesIn, isNovel, Unechoed};
 ghost use Rattle.needless.specs.Joins.{Joins};
-ghost use Rattle.needless.specs.Given.{Joining};
+ghost use Rattle.needless.specs.Given.{Asking, Joining};
 
 // Whether item f is in both sets and a read takes v from it.
-fn gives(c: Case, acts: [Entry; 48], issued: usize, word: u64, done: u64, f: usize, v: u16) -> bool
-    requires { ⌜ (issued ≤ 48) × (length acts ≡ 48) ⌝ }
-    ensures { λ r. ⌜ ((s : State) → Acts c issued acts s → r ≡ givesIn c s word done v f) ⌝ }
+fn gives<'a>(
+    memory: &'a [u16; 8],
+    acts: &'a [u64; 48],
+    issued: usize,
+    word: u64,
+    done: u64,
+    f: usize,
+    v: u16,
+) -> bool
+    requires { ⌜ issued ≤ 48 ⌝ }
+    ensures { λ r. ⌜ ((c : TheCase) (s : State) → c .memory ≡ now (memory .entry) → Acts c issued (now (acts .entry)) s → r ≡ givesIn c s word done v f) ⌝ }
 {
     let tried = words::has(done, f);
     if !(words::has(word, f) & tried) {
         return false;
     }
-    let w = machine::item_value(c, acts, issued, f);
+    let w = machine::item_value(memory, acts, issued, f);
     v == machine::or_zero(w)
 }
 
 // Whether a read takes v from an item of both sets.
-fn some_gives(c: Case, acts: [Entry; 48], issued: usize, word: u64, done: u64, v: u16) -> bool
-    requires { ⌜ (issued ≤ 48) × (length acts ≡ 48) ⌝ }
-    ensures { λ r. ⌜ ((s : State) → Acts c issued acts s → r ≡ someBelow 64 (givesIn c s word done v)) ⌝ }
+fn some_gives<'a>(
+    memory: &'a [u16; 8],
+    acts: &'a [u64; 48],
+    issued: usize,
+    word: u64,
+    done: u64,
+    v: u16,
+) -> bool
+    requires { ⌜ issued ≤ 48 ⌝ }
+    ensures { λ r. ⌜ ((c : TheCase) (s : State) → c .memory ≡ now (memory .entry) → Acts c issued (now (acts .entry)) s → r ≡ someBelow 64 (givesIn c s word done v)) ⌝ }
 {
     let mut found = false;
     let mut f: usize = 0;
     while f < 64 {
-        let g = gives(c, acts, issued, word, done, f, v);
+        let g = gives(memory, acts, issued, word, done, f, v);
         found = g | found;
         f += 1;
     }
@@ -47,27 +61,40 @@ fn some_gives(c: Case, acts: [Entry; 48], issued: usize, word: u64, done: u64, v
 }
 
 // Whether item e is in the set `word` and no item of both sets gives a read what e gives it.
-fn novel(c: Case, acts: [Entry; 48], issued: usize, word: u64, done: u64, e: usize) -> bool
-    requires { ⌜ (issued ≤ 48) × (length acts ≡ 48) ⌝ }
-    ensures { λ r. ⌜ ((s : State) → Acts c issued acts s → r ≡ isNovel c s word done e) ⌝ }
+fn novel<'a>(
+    memory: &'a [u16; 8],
+    acts: &'a [u64; 48],
+    issued: usize,
+    word: u64,
+    done: u64,
+    e: usize,
+) -> bool
+    requires { ⌜ issued ≤ 48 ⌝ }
+    ensures { λ r. ⌜ ((c : TheCase) (s : State) → c .memory ≡ now (memory .entry) → Acts c issued (now (acts .entry)) s → r ≡ isNovel c s word done e) ⌝ }
 {
     if !words::has(word, e) {
         return false;
     }
-    let w = machine::item_value(c, acts, issued, e);
-    let echoed = some_gives(c, acts, issued, word, done, machine::or_zero(w));
+    let w = machine::item_value(memory, acts, issued, e);
+    let echoed = some_gives(memory, acts, issued, word, done, machine::or_zero(w));
     !echoed
 }
 
 // The items of the set `word` whose value no item of both sets has.
-fn novel_items(c: Case, acts: [Entry; 48], issued: usize, word: u64, done: u64) -> u64
-    requires { ⌜ (issued ≤ 48) × (length acts ≡ 48) ⌝ }
-    ensures { λ r. ⌜ ((s : State) → Acts c issued acts s → SetOf 64 (isNovel c s word done) r) ⌝ }
+fn novel_items<'a>(
+    memory: &'a [u16; 8],
+    acts: &'a [u64; 48],
+    issued: usize,
+    word: u64,
+    done: u64,
+) -> u64
+    requires { ⌜ issued ≤ 48 ⌝ }
+    ensures { λ r. ⌜ ((c : TheCase) (s : State) → c .memory ≡ now (memory .entry) → Acts c issued (now (acts .entry)) s → SetOf 64 (isNovel c s word done) r) ⌝ }
 {
     let mut items: u64 = 0;
     let mut e: usize = 0;
     while e < 64 {
-        let test = novel(c, acts, issued, word, done, e);
+        let test = novel(memory, acts, issued, word, done, e);
         items = orders::with(items, e, test);
         e += 1;
     }
@@ -75,16 +102,16 @@ fn novel_items(c: Case, acts: [Entry; 48], issued: usize, word: u64, done: u64) 
 }
 
 // The accepted steps `word` of word w without the reads from an item whose value a spent one has.
-pub fn unechoed(
-    c: Case,
-    acts: [Entry; 48],
+pub fn unechoed<'a>(
+    memory: &'a [u16; 8],
+    acts: &'a [u64; 48],
     issued: usize,
-    spent: &[u64; 50],
+    spent: &'a [u64; 50],
     word: u64,
     w: usize,
 ) -> u64
-    requires { ⌜ (issued ≤ 48) × (length acts ≡ 48) × (w < 50) ⌝ }
-    ensures { λ r. ⌜ ((s : State) → Acts c issued acts s → Unechoed c s (now (spent .entry)) w word r) ⌝ }
+    requires { ⌜ Asking issued w ⌝ }
+    ensures { λ r. ⌜ ((c : TheCase) (s : State) → c .memory ≡ now (memory .entry) → Acts c issued (now (acts .entry)) s → Unechoed c s (now (spent .entry)) w word r) ⌝ }
 {
     if 48 <= w {
         return word;
@@ -94,7 +121,7 @@ pub fn unechoed(
     if (tried == 0) | (tried == word) {
         return word;
     }
-    novel_items(c, acts, issued, word, done)
+    novel_items(memory, acts, issued, word, done)
 }
 
 // Whether a name stands for what action k gives.
@@ -135,14 +162,14 @@ fn awaits(e: Entry, k: usize) -> bool
 }
 
 // Whether a queued action outside the set reads what action k gives.
-fn awaited(acts: [Entry; 48], issued: usize, inner: u64, k: usize) -> bool
-    requires { ⌜ (issued ≤ 48) × (length acts ≡ 48) × (k < 48) ⌝ }
-    ensures { λ r. ⌜ ((c : TheCase) (s : State) → Acts c issued acts s → r ≡ someBelow (s .count) (λ j. isAwaiting k (s .actions j) && not (inSet inner j))) ⌝ }
+fn awaited(acts: &[u64; 48], issued: usize, inner: u64, k: usize) -> bool
+    requires { ⌜ (issued ≤ 48) × (k < 48) ⌝ }
+    ensures { λ r. ⌜ ((c : TheCase) (s : State) → Acts c issued (now (acts .entry)) s → r ≡ someBelow (s .count) (λ j. isAwaiting k (s .actions j) && not (inSet inner j))) ⌝ }
 {
     let mut found = false;
     let mut j: usize = 0;
     while j < issued {
-        let e = acts[j];
+        let e = machine::entry_at(acts, j);
         let w = awaits(e, k);
         let inside = words::has(inner, j);
         found = (w & !inside) | found;
@@ -152,11 +179,17 @@ fn awaited(acts: [Entry; 48], issued: usize, inner: u64, k: usize) -> bool
 }
 
 // Whether action k, queued, may join a set of reads and locals that nothing outside it reads.
-fn may_join(names: &[u8; 32], acts: [Entry; 48], issued: usize, inner: u64, k: usize) -> bool
-    requires { ⌜ Joining issued acts (now names) k ⌝ }
-    ensures { λ r. ⌜ ((c : TheCase) (s : State) → Acts c issued acts s → s .names ≡ namesOf c (now (names .entry)) → r ≡ true → Joins s inner k) ⌝ }
+fn may_join<'a>(
+    names: &'a [u8; 32],
+    acts: &'a [u64; 48],
+    issued: usize,
+    inner: u64,
+    k: usize,
+) -> bool
+    requires { ⌜ Joining issued (now names) k ⌝ }
+    ensures { λ r. ⌜ ((c : TheCase) (s : State) → Acts c issued (now (acts .entry)) s → s .names ≡ namesOf c (now (names .entry)) → r ≡ true → Joins s inner k) ⌝ }
 {
-    let e = acts[k];
+    let e = machine::entry_at(acts, k);
     if e.done {
         return false;
     }
@@ -183,9 +216,9 @@ fn joined_by(x: u64, k: usize, test: bool) -> u64
 }
 
 // Queued reads and locals that nothing outside them looks at.
-pub fn ignored(names: &[u8; 32], acts: [Entry; 48], issued: usize) -> u64
-    requires { ⌜ (issued ≤ 48) × (length acts ≡ 48) × (length (now names) ≡ 32) ⌝ }
-    ensures { λ r. ⌜ ((c : TheCase) (s : State) → Acts c issued acts s → s .names ≡ namesOf c (now (names .entry)) → Ignored s (inSet r)) ⌝ }
+pub fn ignored<'a>(names: &'a [u8; 32], acts: &'a [u64; 48], issued: usize) -> u64
+    requires { ⌜ (issued ≤ 48) × (length (now names) ≡ 32) ⌝ }
+    ensures { λ r. ⌜ ((c : TheCase) (s : State) → Acts c issued (now (acts .entry)) s → s .names ≡ namesOf c (now (names .entry)) → Ignored s (inSet r)) ⌝ }
 {
     let mut inner: u64 = 0;
     let mut k: usize = issued;

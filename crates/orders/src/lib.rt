@@ -1,6 +1,6 @@
 // One order over all items, as rows of sets.
 ghost use mathlib.Core.Path.{_≡_};
-ghost use mathlib.Core.Bool.{Bool, _&&_};
+ghost use mathlib.Core.Bool.{Bool, _&&_, not};
 ghost use Prim.Native.Nat.{ℕ, _+_, _≤_, _<_};
 ghost use lib.ListN.{length};
 ghost use Rattle.words.specs.Sets.{has as inSet};
@@ -63,6 +63,13 @@ pub fn with(x: u64, n: usize, test: bool) -> u64
         return words::one(n) | x;
     }
     x
+}
+
+// The set x without what it has in common with y.
+pub fn minus(x: u64, y: u64) -> u64
+    ensures { λ r. ⌜ ((a : ℕ) → inSet r a ≡ (inSet x a && not (inSet y a))) ⌝ }
+{
+    x ^ (x & y)
 }
 
 // Item e and what stands before it, where the test passes, else nothing.

@@ -20,14 +20,15 @@ use Rattle.oneorder.proofs.OneOrder.{stands-at}
 use Rattle.oneorder.proofs.Visible.{limited-same}
 use Rattle.orders.specs.Rows.{orderOf}
 use Rattle.machine.specs.declared.Entry.{Entry}
-use Rattle.machine.specs.Shown.{shownEntry, blankEntry, ordersOf, Acts}
+use Rattle.machine.specs.Word.{entryOf}
+use Rattle.machine.specs.Shown.{shownEntry, ordersOf, Acts}
 use Rattle.committing.specs.Committed.{Entries}
 use Rattle.machine.proofs.Entries.{action-at}
 use Rattle.races.specs.Test.{conflict, unordered, races, partner, opener, firstOfRace, secondOfRace}
 
 -- two entries that meet, unordered: between reads and writes of one location its order is the one order
-module _ (c : Case) (n : ℕ) (acts : List Entry) (s : State) (a : Acts c n acts s) (rows : List ℕ) (o : s .orders ≡ ordersOf c (s .actions) rows) (e : Entries c n acts) (j k : ℕ) (hj : j < n) (hk : k < n) where
-  ej : s .actions j ≡ shownEntry c (getD acts j blankEntry)
+module _ (c : Case) (n : ℕ) (acts : List ℕ) (s : State) (a : Acts c n acts s) (rows : List ℕ) (o : s .orders ≡ ordersOf c (s .actions) rows) (e : Entries c n acts) (j k : ℕ) (hj : j < n) (hk : k < n) where
+  ej : s .actions j ≡ shownEntry c (entryOf (getD acts j 0))
   ej = action-at c n acts s a j hj
 
   same-order : conflict (s .actions j) (s .actions k) ≡ true → unordered (orderOf rows) j k ≡ unordered (s .orders (s .actions j .loc)) j k
@@ -43,9 +44,9 @@ module _ (c : Case) (n : ℕ) (acts : List Entry) (s : State) (a : Acts c n acts
       λ x y u v. sym (ap (λ (R : ℕ → Order). R l x y) o ∙ limited-same (ltb l (c .locs)) (s .actions) l (orderOf rows) x y (lt-ltb _ _ low) u v) in
       ap₂ (λ (x y : Bool). not x && not y) (at (8 + j) (8 + k) sj sk) (at (8 + k) (8 + j) sk sj)
 
-  pub races-is : (meet free : Bool) → meet ≡ conflict (shownEntry c (getD acts j blankEntry)) (shownEntry c (getD acts k blankEntry)) → free ≡ unordered (orderOf rows) j k → (meet && free) ≡ races s j k
+  pub races-is : (x y : Entry) (meet free : Bool) → x ≡ entryOf (getD acts j 0) → y ≡ entryOf (getD acts k 0) → meet ≡ conflict (shownEntry c x) (shownEntry c y) → free ≡ unordered (orderOf rows) j k → (meet && free) ≡ races s j k
   unfolding races
-  races-is meet free m f = ap₂ (λ (x y : Bool). x && y) (m ∙ (λ i. conflict (sym ej i) (sym (action-at c n acts s a k hk) i))) f ∙ ⊎-elim (λ h. ap (λ (x : Bool). conflict (s .actions j) (s .actions k) && x) (same-order h)) (λ h. rw h refl) (decide (conflict (s .actions j) (s .actions k)))
+  races-is x y meet free ex ey m f = ap₂ (λ (x y : Bool). x && y) (m ∙ ap₂ (λ (u v : Entry). conflict (shownEntry c u) (shownEntry c v)) ex ey ∙ (λ i. conflict (sym ej i) (sym (action-at c n acts s a k hk) i))) f ∙ ⊎-elim (λ h. ap (λ (x : Bool). conflict (s .actions j) (s .actions k) && x) (same-order h)) (λ h. rw h refl) (decide (conflict (s .actions j) (s .actions k)))
 
 -- no number up to k passes
 none-more : (f : ℕ → Bool) (k : ℕ) → ((i : ℕ) → i < k → f i ≡ false) → f k ≡ false → (i : ℕ) → i < k + 1 → f i ≡ false

@@ -1,15 +1,11 @@
 // The first race of a schedule.
-use cases::Case;
 use machine::Entry;
-use machine::Machine;
 ghost use mathlib.Core.Path.{_≡_};
 ghost use Prim.Native.Nat.{_≤_, _<_};
-ghost use lib.ListN.{length};
 ghost use Rattle.cases.specs.declared.Case.{Case as TheCase};
 ghost use Rattle.rules.specs.State.{State};
 ghost use Rattle.orders.specs.Rows.{orderOf};
-ghost use Rattle.machine.specs.Shown.{shownEntry, shown, ordersOf, Acts};
-ghost use Rattle.machine.specs.Valid.{Valid};
+ghost use Rattle.machine.specs.Shown.{shownEntry, ordersOf, Acts};
 ghost use Rattle.committing.specs.Committed.{Entries};
 ghost use Rattle.races.specs.Test.{conflict as conflictOf, unordered as unorderedOf, races as racesOf, partner as partnerOf, opener as openerOf, firstOfRace, secondOfRace};
 ghost use Rattle.racing.specs.Answer.{queued as queuedOf, IsRace};
@@ -57,21 +53,21 @@ fn unordered(rows: &[u64; 56], j: usize, k: usize) -> bool
 }
 
 // Whether actions j and k race.
-fn races(acts: [Entry; 48], rows: &[u64; 56], issued: usize, j: usize, k: usize) -> bool
-    requires { ⌜ Two issued acts j k ⌝ }
-    ensures { λ r. ⌜ ((c : TheCase) (s : State) → Acts c issued acts s → s .orders ≡ ordersOf c (s .actions) (now (rows .entry)) → Entries c issued acts → r ≡ racesOf s j k) ⌝ }
+fn races<'a>(acts: &'a [u64; 48], rows: &'a [u64; 56], issued: usize, j: usize, k: usize) -> bool
+    requires { ⌜ Two issued j k ⌝ }
+    ensures { λ r. ⌜ ((c : TheCase) (s : State) → Acts c issued (now (acts .entry)) s → s .orders ≡ ordersOf c (s .actions) (now (rows .entry)) → Entries c issued (now (acts .entry)) → r ≡ racesOf s j k) ⌝ }
 {
-    let a = acts[j];
-    let b = acts[k];
+    let a = machine::entry_at(acts, j);
+    let b = machine::entry_at(acts, k);
     let meet = conflict(a, b);
     let free = unordered(rows, j, k);
     meet & free
 }
 
 // The lowest action after j that races with it; the number of the issued actions where none does.
-fn partner(acts: [Entry; 48], rows: &[u64; 56], issued: usize, j: usize) -> usize
-    requires { ⌜ One issued acts j ⌝ }
-    ensures { λ r. ⌜ ((c : TheCase) (s : State) → Acts c issued acts s → s .orders ≡ ordersOf c (s .actions) (now (rows .entry)) → Entries c issued acts → r ≡ partnerOf s j) ⌝ }
+fn partner<'a>(acts: &'a [u64; 48], rows: &'a [u64; 56], issued: usize, j: usize) -> usize
+    requires { ⌜ One issued j ⌝ }
+    ensures { λ r. ⌜ ((c : TheCase) (s : State) → Acts c issued (now (acts .entry)) s → s .orders ≡ ordersOf c (s .actions) (now (rows .entry)) → Entries c issued (now (acts .entry)) → r ≡ partnerOf s j) ⌝ }
 {
     let mut k = j + 1;
     while k < issued {
@@ -84,9 +80,9 @@ fn partner(acts: [Entry; 48], rows: &[u64; 56], issued: usize, j: usize) -> usiz
 }
 
 // The lowest action that has a partner; the number of the issued actions where none has one.
-fn opener(acts: [Entry; 48], rows: &[u64; 56], issued: usize) -> usize
-    requires { ⌜ (issued ≤ 48) × (length acts ≡ 48) ⌝ }
-    ensures { λ r. ⌜ ((c : TheCase) (s : State) → Acts c issued acts s → s .orders ≡ ordersOf c (s .actions) (now (rows .entry)) → Entries c issued acts → r ≡ openerOf s) ⌝ }
+fn opener<'a>(acts: &'a [u64; 48], rows: &'a [u64; 56], issued: usize) -> usize
+    requires { ⌜ issued ≤ 48 ⌝ }
+    ensures { λ r. ⌜ ((c : TheCase) (s : State) → Acts c issued (now (acts .entry)) s → s .orders ≡ ordersOf c (s .actions) (now (rows .entry)) → Entries c issued (now (acts .entry)) → r ≡ openerOf s) ⌝ }
 {
     let mut j: usize = 0;
     while j < issued {
@@ -100,15 +96,13 @@ fn opener(acts: [Entry; 48], rows: &[u64; 56], issued: usize) -> usize
 }
 
 // The first race of a machine.
-fn first(c: Case, m: Machine) -> Pair
-    requires { ⌜ Valid c m ⌝ }
-    ensures { λ r. ⌜ (r .first ≡ firstOfRace (shown c m)) × (r .second ≡ secondOfRace (shown c m)) ⌝ }
+fn first<'a>(acts: &'a [u64; 48], rows: &'a [u64; 56], issued: usize) -> Pair
+    requires { ⌜ issued ≤ 48 ⌝ }
+    ensures { λ r. ⌜ ((c : TheCase) (s : State) → Acts c issued (now (acts .entry)) s → s .orders ≡ ordersOf c (s .actions) (now (rows .entry)) → Entries c issued (now (acts .entry)) → (r .first ≡ firstOfRace s) × (r .second ≡ secondOfRace s)) ⌝ }
 {
-    let acts = m.acts;
-    let issued = m.issued;
-    let j = opener(acts, &m.rows, issued);
+    let j = opener(acts, rows, issued);
     if j < issued {
-        let k = partner(acts, &m.rows, issued, j);
+        let k = partner(acts, rows, issued, j);
         return Pair {
             first: j,
             second: k,
@@ -121,14 +115,14 @@ fn first(c: Case, m: Machine) -> Pair
 }
 
 // Whether a queue is not empty.
-fn queued(acts: [Entry; 48], issued: usize) -> bool
-    requires { ⌜ (issued ≤ 48) × (length acts ≡ 48) ⌝ }
-    ensures { λ r. ⌜ ((c : TheCase) (s : State) → Acts c issued acts s → r ≡ queuedOf s) ⌝ }
+fn queued(acts: &[u64; 48], issued: usize) -> bool
+    requires { ⌜ issued ≤ 48 ⌝ }
+    ensures { λ r. ⌜ ((c : TheCase) (s : State) → Acts c issued (now (acts .entry)) s → r ≡ queuedOf s) ⌝ }
 {
     let mut found = false;
     let mut k: usize = 0;
     while k < issued {
-        let e = acts[k];
+        let e = machine::entry_at(acts, k);
         let w = machine::queued(e, words::wide(e.proc));
         found = w | found;
         k += 1;
@@ -166,11 +160,11 @@ pub fn race(block: &[u8], schedule: &[u8]) -> Raced
         return refused(w.code, w.steps, w.place, 0);
     }
     let m = w.machine;
-    let acts = m.acts;
-    if queued(acts, m.issued) {
+    let issued = m.issued;
+    if queued(&m.acts, issued) {
         return refused(14, w.steps, w.place, 0);
     }
-    let pair = first(c, m);
+    let pair = first(&m.acts, &m.rows, issued);
     Raced {
         code: 0,
         first: pair.first,

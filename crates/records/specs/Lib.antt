@@ -1,3 +1,4 @@
 pub mod Buffer
 pub mod Growth
 pub mod Insertion
+pub mod Order

@@ -3,9 +3,10 @@ ghost use mathlib.Core.Path.{_≡_};
 ghost use mathlib.Core.Logic.{_↔_};
 ghost use mathlib.Core.Bool.{true};
 ghost use mathlib.Core.List.{_++_};
-ghost use Prim.Native.Nat.{_+_, _≤_};
-ghost use lib.ListN.{length, take, drop, replicate};
+ghost use Prim.Native.Nat.{_+_, _≤_, _<_};
+ghost use lib.ListN.{length, getD, take, drop, replicate};
 ghost use Rattle.runs.specs.Listing.{below as isBelow};
+ghost use Rattle.records.specs.Order.{fourAt, eightAt, Number, Alike};
 ghost use Rattle.records.specs.Buffer.{Among, Held};
 ghost use Rattle.records.specs.Insertion.{Place, Finding, Standing, Shifting, Insertion};
 
@@ -26,12 +27,37 @@ pub fn clear(out: &mut [u8])
     }
 }
 
-// Whether a is below b in byte order.
-pub fn below(a: &[u8], b: &[u8]) -> bool
-    requires { ⌜ length (now a) ≡ length (now b) ⌝ }
+// The byte at position i, as a number to compute with.
+fn digit(bytes: &[u8], i: usize) -> u32
+    requires { ⌜ i < length (now bytes) ⌝ }
+    ensures { λ x. ⌜ Number (now (bytes .entry)) (getD (now (bytes .entry)) i 0) 256 x ⌝ }
+{
+    bytes[i] as u32
+}
+
+// The number that the four bytes from position i on are, first byte first.
+fn four(bytes: &[u8], i: usize) -> u32
+    requires { ⌜ i + 4 ≤ length (now bytes) ⌝ }
+    ensures { λ x. ⌜ Number (now (bytes .entry)) (fourAt (now (bytes .entry)) i) 4294967296 x ⌝ }
+{
+    let two = 256 * digit(bytes, i) + digit(bytes, i + 1);
+    256 * (256 * two + digit(bytes, i + 2)) + digit(bytes, i + 3)
+}
+
+// The number that the eight bytes from position i on are, first byte first.
+fn eight(bytes: &[u8], i: usize) -> u64
+    requires { ⌜ i + 8 ≤ length (now bytes) ⌝ }
+    ensures { λ x. ⌜ Number (now (bytes .entry)) (eightAt (now (bytes .entry)) i) 18446744073709551616 x ⌝ }
+{
+    4294967296 * (four(bytes, i) as u64) + (four(bytes, i + 4) as u64)
+}
+
+// Whether a is below b in byte order, where the bytes before `from` are the same.
+fn below_from(a: &[u8], b: &[u8], from: usize) -> bool
+    requires { ⌜ Alike (now a) (now b) from ⌝ }
     ensures { λ x. ⌜ x ≡ isBelow (now (a .entry)) (now (b .entry)) ⌝ }
 {
-    let mut i = 0;
+    let mut i = from;
     while i < a.len() {
         if a[i] != b[i] {
             return a[i] < b[i];
@@ -39,6 +65,23 @@ pub fn below(a: &[u8], b: &[u8]) -> bool
         i += 1;
     }
     false
+}
+
+// Whether a is below b in byte order; eight bytes at a time while there are as many.
+pub fn below(a: &[u8], b: &[u8]) -> bool
+    requires { ⌜ length (now a) ≡ length (now b) ⌝ }
+    ensures { λ x. ⌜ x ≡ isBelow (now (a .entry)) (now (b .entry)) ⌝ }
+{
+    let mut i = 0;
+    while 8 <= a.len() - i {
+        let x = eight(a, i);
+        let y = eight(b, i);
+        if x != y {
+            return x < y;
+        }
+        i += 8;
+    }
+    below_from(a, b, i)
 }
 
 // The place of r among the n records, by halving.

@@ -15,8 +15,7 @@ use Rattle.rules.proofs.Named.{place-neither}
 use Rattle.machine.specs.declared.Machine.{Machine}
 use Rattle.machine.specs.Shown.{shown}
 use Rattle.machine.specs.Valid.{Valid}
-use Rattle.stepping.specs.declared.Stepped.{Stepped}
-use Rattle.stepping.specs.Taken.{Taken}
+use Rattle.machine.specs.Given.{Showing}
 use Rattle.replaying.specs.Inner.{IsWalk}
 
 -- a replay with k steps before it
@@ -84,38 +83,35 @@ module _ (sch : List ℕ) where
         let q : r .taken ≡ 0 + r .taken = sym (zero-add (r .taken)) in
         (λ j. record { code = r .code; taken = q j; state = r .state }) ∙ ap (λ (s : State). later 0 (replay (womm c) s (stepsOf sch))) (sym h)
 
-    module _ (k : ℕ) (m : Machine) (r : Stepped) (inside : 4 * k + 4 ≤ length sch) (at : Reached k m) (u : Taken c m (stepAt k) r) where
-      pub reached-next : r .code ≡ 0 → Reached (k + 1) (r .machine)
-      reached-next z =
+    module _ (k : ℕ) (m : Machine) (inside : 4 * k + 4 ≤ length sch) (at : Reached k m) where
+      pub reached-next : (r : Machine) → stepCode c (shown c m) (stepAt k) ≡ 0 → Showing c (after c (shown c m) (stepAt k)) r → Reached (k + 1) r
+      reached-next r z u =
           let t = stepAt k in
           let ts = stepsOf (drop (4 * (k + 1)) sch) in
           let w = replay (womm c) (after c (shown c m) t) ts in
           let q : k + (1 + w .taken) ≡ k + 1 + w .taken = omega arith in
           at
           ∙ ap (λ (l : List Step). later k (replay (womm c) (shown c m) l)) (steps-next k inside)
-          ∙ ap (later k) (go-on c (shown c m) t ts (sym (u .code) ∙ z))
+          ∙ ap (later k) (go-on c (shown c m) t ts z)
           ∙ (λ j. record { code = w .code; taken = q j; state = w .state })
-          ∙ ap (λ (s : State). later (k + 1) (replay (womm c) s ts)) (sym (u .accepted z))
+          ∙ ap (λ (s : State). later (k + 1) (replay (womm c) s ts)) (sym (u .shows))
 
-      pub reached-stop : (r .code ≡ 0 → ⊥) → IsWalk c (stepsOf sch) (record { code = r .code; steps = k; place = r .place; machine = r .machine })
-      reached-stop z =
+      pub reached-stop : (code place : ℕ) → Valid c m → code ≡ stepCode c (shown c m) (stepAt k) → place ≡ stepPlace c (shown c m) (stepAt k) → (code ≡ 0 → ⊥) → IsWalk c (stepsOf sch) (record { code = code; steps = k; place = place; machine = m })
+      reached-stop code place v hc hp z =
           let t = stepAt k in
           let ts = stepsOf (drop (4 * (k + 1)) sch) in
           let e : whole ≡ later k (record { code = stepCode c (shown c m) t; taken = 0; state = shown c m }) =
-          at ∙ ap (λ (l : List Step). later k (replay (womm c) (shown c m) l)) (steps-next k inside) ∙ ap (later k) (stop c (shown c m) t ts (λ q. z (u .code ∙ q))) in
+          at ∙ ap (λ (l : List Step). later k (replay (womm c) (shown c m) l)) (steps-next k inside) ∙ ap (later k) (stop c (shown c m) t ts (λ q. z (hc ∙ q))) in
           record {
-            code = u .code ∙ sym (ap (λ (x : Replay State). x .code) e);
+            code = hc ∙ sym (ap (λ (x : Replay State). x .code) e);
             steps = sym (ap (λ (x : Replay State). x .taken) e ∙ add-zero k);
             place =
-                u .place
+                hp
                 ∙ ap (stepPlace c (shown c m)) (sym (step-later k 0 (omega arith) ∙ ap (λ (l : List Step). getD l 0 neither) (steps-next k inside)))
                 ∙ sym (ap (replayPlace c (stepsOf sch)) e);
-            shows = ap (shown c) (u .refused (positive (r .code) z)) ∙ sym (ap (λ (x : Replay State). x .state) e);
-            valid = u .valid;
+            shows = sym (ap (λ (x : Replay State). x .state) e);
+            valid = v;
           }
-        where
-          positive : (n : ℕ) → (n ≡ 0 → ⊥) → 0 < n
-          positive n z = omega arith
 
     pub reached-end : (k : ℕ) (m : Machine) → 4 * k ≡ length sch → Valid c m → Reached k m → IsWalk c (stepsOf sch) (record { code = 0; steps = k; place = 255; machine = m })
     unfolding replay

@@ -1,7 +1,7 @@
 -- A schedule taken on the machine, the bytes after the registers, and what the functions are given. Assumes nothing.
 use mathlib.Core.Path.{_≡_}
 use mathlib.Core.List.{List, _++_}
-use Prim.Native.Nat.{ℕ, _%_, _≤_, _<_}
+use Prim.Native.Nat.{ℕ, _%_}
 use lib.ListN.{length}
 use Rattle.cases.specs.declared.Case.{Case}
 use Rattle.runs.specs.Replay.{replay}
@@ -10,7 +10,6 @@ use Rattle.rules.specs.Step.{Step, replayPlace}
 use Rattle.rules.specs.Result.{howMany, placeByte, present}
 use Rattle.rules.specs.Womm.{womm}
 use Rattle.machine.specs.Shown.{shown}
-use Rattle.machine.specs.declared.Entry.{Entry}
 use Rattle.machine.specs.declared.Machine.{Machine}
 use Rattle.machine.specs.Fit.{Fit}
 use Rattle.machine.specs.Valid.{Valid}
@@ -32,18 +31,6 @@ tailOf c s = present c (λ p. placeByte (s .places p)) ++ present c (λ p. howMa
 pub record Walking (c : Case) (schedule : List ℕ) : Type 0 where
   pub fit : Fit c
   pub whole : length schedule % 4 ≡ 0
-
--- The entries of a machine, and a byte after the registers.
-pub record TailAt (acts : List Entry) (issued j : ℕ) : Type 0 where
-  pub few : issued ≤ 48
-  pub acts-long : length acts ≡ 48
-  pub low : j < 8
-
--- The entries of a machine, and a buffer of a result's size.
-pub record Filling (acts : List Entry) (issued : ℕ) (result : List ℕ) : Type 0 where
-  pub few : issued ≤ 48
-  pub acts-long : length acts ≡ 48
-  pub long : length result ≡ 104
 
 -- A machine, and a buffer of this size.
 pub record Showing (c : Case) (m : Machine) (size : ℕ) (out : List ℕ) : Type 0 where

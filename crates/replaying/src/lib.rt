@@ -1,6 +1,5 @@
 // A replay: a schedule taken step by step on the case that a block holds.
 use cases::Case;
-use machine::Entry;
 use machine::Machine;
 ghost use mathlib.Core.Path.{_≡_};
 ghost use mathlib.Core.Bool.{cond};
@@ -14,7 +13,7 @@ ghost use Rattle.rules.specs.Step.{stepsOf};
 ghost use Rattle.rules.specs.Result.{howMany, registers as registersOf, resultBytes};
 ghost use Rattle.machine.specs.Shown.{placeOf, shown, Acts};
 ghost use Rattle.replaying.specs.Answer.{lengthRefusals, IsReplay};
-ghost use Rattle.replaying.specs.Inner.{IsWalk, tailOf, Walking, TailAt, Filling, Showing};
+ghost use Rattle.replaying.specs.Inner.{IsWalk, tailOf, Walking, Showing};
 
 // The code, the number of steps taken, the place of the instruction that the code names, else 255, and the position that a block's code carries,
 // 0 with any other.
@@ -42,25 +41,20 @@ pub fn walk(c: Case, schedule: &[u8]) -> Walked
     let mut steps: usize = 0;
     while 4 * steps < schedule.len() {
         let i = 4 * steps;
-        let s = stepping::step(
-            c,
-            m,
-            schedule[i],
-            schedule[i + 1],
-            schedule[i + 2],
-            schedule[i + 3],
-        );
-        let code = s.code;
-        let next = s.machine;
+        let kind = schedule[i];
+        let proc = schedule[i + 1];
+        let action = schedule[i + 2];
+        let source = schedule[i + 3];
+        let code = stepping::code_of(c, m, kind, proc, action, source);
         if code != 0 {
             return Walked {
                 code,
                 steps,
-                place: s.place,
-                machine: next,
+                place: stepping::place_of(c, m, kind, proc, action, source, code),
+                machine: m,
             };
         }
-        m = next;
+        m = stepping::taken(c, m, kind, proc, action, source);
         steps += 1;
     }
     Walked {
@@ -82,14 +76,14 @@ fn one_if(test: bool) -> u8
 }
 
 // How many actions processor p has in its queue.
-fn queue_length(acts: [Entry; 48], issued: usize, p: usize) -> u8
-    requires { ⌜ (issued ≤ 48) × (length acts ≡ 48) ⌝ }
-    ensures { λ r. ⌜ ((c : TheCase) (s : State) → Acts c issued acts s → r ≡ howMany (s .count) (λ k. waiting p (s .actions k))) ⌝ }
+fn queue_length(acts: &[u64; 48], issued: usize, p: usize) -> u8
+    requires { ⌜ issued ≤ 48 ⌝ }
+    ensures { λ r. ⌜ ((c : TheCase) (s : State) → Acts c issued (now (acts .entry)) s → r ≡ howMany (s .count) (λ k. waiting p (s .actions k))) ⌝ }
 {
     let mut n: u8 = 0;
     let mut k: usize = 0;
     while k < issued {
-        let e = acts[k];
+        let e = machine::entry_at(acts, k);
         let more = one_if(machine::queued(e, p));
         n = more + n;
         k += 1;
@@ -98,12 +92,12 @@ fn queue_length(acts: [Entry; 48], issued: usize, p: usize) -> u8
 }
 
 // The place counter of processor p, then its queue's length, in the bytes after the registers; 0 of an absent processor.
-fn tail_byte(c: Case, places: &[u8; 4], acts: [Entry; 48], issued: usize, j: usize) -> u8
-    requires { ⌜ TailAt acts issued j ⌝ }
-    ensures { λ r. ⌜ ((s : State) → Acts c issued acts s → ((p : ℕ) → s .places p ≡ placeOf (getD (now (places .entry)) p 0)) → r ≡ getD (tailOf c s) j 0) ⌝ }
+fn tail_byte<'a>(procs: u8, places: &'a [u8; 4], acts: &'a [u64; 48], issued: usize, j: usize) -> u8
+    requires { ⌜ (issued ≤ 48) × (j < 8) ⌝ }
+    ensures { λ r. ⌜ ((c : TheCase) (s : State) → c .procs ≡ procs → Acts c issued (now (acts .entry)) s → ((p : ℕ) → s .places p ≡ placeOf (getD (now (places .entry)) p 0)) → r ≡ getD (tailOf c s) j 0) ⌝ }
 {
     let p = j % 4;
-    if words::wide(c.procs) <= p {
+    if words::wide(procs) <= p {
         return 0;
     }
     if j < 4 {
@@ -114,40 +108,20 @@ fn tail_byte(c: Case, places: &[u8; 4], acts: [Entry; 48], issued: usize, j: usi
 
 // Byte i of the result: the registers, then the rest.
 fn result_byte<'a>(
-    c: Case,
+    procs: u8,
     registers: &'a [u8; 96],
     places: &'a [u8; 4],
-    acts: [Entry; 48],
+    acts: &'a [u64; 48],
     issued: usize,
     i: usize,
 ) -> u8
-    requires { ⌜ (issued ≤ 48) × (length acts ≡ 48) × (i < 104) ⌝ }
-    ensures { λ r. ⌜ ((s : State) → Acts c issued acts s → ((p : ℕ) → s .places p ≡ placeOf (getD (now (places .entry)) p 0)) → now (registers .entry) ≡ registersOf c s → r ≡ getD (resultBytes c s) i 0) ⌝ }
+    requires { ⌜ (issued ≤ 48) × (i < 104) ⌝ }
+    ensures { λ r. ⌜ ((c : TheCase) (s : State) → c .procs ≡ procs → Acts c issued (now (acts .entry)) s → ((p : ℕ) → s .places p ≡ placeOf (getD (now (places .entry)) p 0)) → now (registers .entry) ≡ registersOf c s → r ≡ getD (resultBytes c s) i 0) ⌝ }
 {
     if i < 96 {
         return registers[i];
     }
-    tail_byte(c, places, acts, issued, i - 96)
-}
-
-// Writes the 104 bytes of a result into a buffer.
-fn fill(
-    c: Case,
-    registers: [u8; 96],
-    places: [u8; 4],
-    acts: [Entry; 48],
-    issued: usize,
-    result: &mut [u8],
-)
-    requires { ⌜ Filling acts issued (now result) ⌝ }
-    ensures { λ _. ⌜ ((s : State) → Acts c issued acts s → ((p : ℕ) → s .places p ≡ placeOf (getD places p 0)) → registers ≡ registersOf c s → now (result .exit) ≡ resultBytes c s) ⌝ }
-{
-    let mut i: usize = 0;
-    while i < 104 {
-        let b = result_byte(c, &registers, &places, acts, issued, i);
-        result[i] = b;
-        i += 1;
-    }
+    tail_byte(procs, places, acts, issued, i - 96)
 }
 
 // Writes the result of a machine into a buffer of 104 bytes.
@@ -155,11 +129,15 @@ fn show(c: Case, m: Machine, result: &mut [u8])
     requires { ⌜ Showing c m 104 (now result) ⌝ }
     ensures { λ _. ⌜ now (result .exit) ≡ resultBytes c (shown c m) ⌝ }
 {
-    let acts = m.acts;
+    let procs = c.procs;
     let issued = m.issued;
-    let places = m.places;
     let registers = machine::registers(c, m);
-    fill(c, registers, places, acts, issued, result);
+    let mut i: usize = 0;
+    while i < 104 {
+        let b = result_byte(procs, &registers, &m.places, &m.acts, issued, i);
+        result[i] = b;
+        i += 1;
+    }
 }
 
 // The first of the codes of a block, 8 and 9: code is the block's own, wanted the size that the buffer should have.

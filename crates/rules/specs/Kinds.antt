@@ -106,8 +106,3 @@ heldBy k q same =
     || ((writing k || computing k || jumping k) && acquiring q)
     || (acquiring k && (acquiring q || releasing q))
     || releasing k
-
--- Two numbers of kinds.
-pub record TwoKinds (k q : ℕ) : Type 0 where
-  pub first : k < 8
-  pub second : q < 8

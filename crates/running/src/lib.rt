@@ -329,7 +329,7 @@ fn presets(c: Case) -> [Value; 32]
     let mut out = [none; 32];
     let mut i: usize = 0;
     while i < 32 {
-        out[i] = machine::preset_of(c, i);
+        out[i] = machine::preset_of(&c.masks, &c.presets, i);
         i += 1;
     }
     out

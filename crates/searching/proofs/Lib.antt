@@ -1,3 +1,4 @@
+pub mod Entered
 pub mod Opened
 pub mod Ends
 pub mod Loop

@@ -12,24 +12,17 @@ use Rattle.words.proofs.Bools.{decide, or-cases, or-none}
 use Rattle.cases.specs.declared.Case.{Case}
 use Rattle.clauses.specs.declared.Asked.{Asked}
 use Rattle.clauses.specs.Wanted.{wanted}
-use Rattle.runs.specs.Reachable.{Reachable}
 use Rattle.runs.specs.Wanted.{Wish}
-use Rattle.runs.proofs.Reachable.{reachable-step}
 use Rattle.rules.specs.State.{State}
 use Rattle.rules.specs.Step.{Step, stepCode, after}
 use Rattle.rules.specs.Result.{finished}
-use Rattle.rules.specs.Womm.{womm}
 use Rattle.sure.specs.Sure.{Sized}
 use Rattle.sure.specs.Futile.{leaves}
 use Rattle.sure.specs.Marked.{Alone}
-use Rattle.sure.specs.Spent.{Spent, stepBy, Rested}
+use Rattle.sure.specs.Spent.{Spent, stepBy}
 use Rattle.sure.proofs.Known.{Known, known}
-use Rattle.sure.proofs.Sweep.{rested-after}
 use Rattle.machine.specs.declared.Machine.{Machine}
 use Rattle.machine.specs.Shown.{shown}
-use Rattle.machine.specs.Fit.{Fit}
-use Rattle.machine.specs.Valid.{Valid}
-use Rattle.records.specs.Buffer.{Held}
 use Rattle.spending.specs.Words.{spentBy, keyAt}
 use Rattle.spending.specs.Spending.{Noted, RestedBy}
 use Rattle.choices.specs.Choice.{SureAt}
@@ -37,24 +30,25 @@ use Rattle.searching.specs.declared.Span.{Span}
 use Rattle.searching.specs.declared.Tally.{Tally}
 use Rattle.searching.specs.Positions.{Swept, Chosen}
 use Rattle.searching.specs.Ready.{Ready}
-use Rattle.searching.specs.Searched.{Searched}
+use Rattle.searching.specs.Searched.{Searched, Explored}
+use Rattle.searching.proofs.Entered.{entered-step, sized, Standing}
 use Rattle.searching.proofs.Ends.{searched-bound, searched-left}
 use Rattle.searching.proofs.Opened.{opens-step}
 use Rattle.searching.proofs.Loop.{Sweeping, sweeping-start, sweeping-skip, sweeping-turn, sweeping-full, sweeping-sure, searched-spent, searched-quiet, searched-all}
-
-pub sized : (c : Case) → Fit c → Sized c
-sized c F = record { few = F .procs; short = λ p _. F .counts p }
 
 -- the step at position j of the machine
 abbrev pub stepAt : Case → Machine → ℕ → Step
 stepAt c m j = stepBy (shown c m) (keyAt j)
 
--- the machine after the step at position j
-pub record Took (c : Case) (m : Machine) (j : ℕ) (next : Machine) : Type 0 where
-  pub shows : shown c next ≡ after c (shown c m) (stepAt c m j)
-  pub valid : Valid c next
+-- no position is past 3200
+pub to-most : {c : Case} {s : State} {spent : List ℕ} {j : ℕ} {r : Span} → Swept c s spent j r → r .to ≤ 3200
+to-most {j = j} {r = r} swept =
+    elim (decLt j 3200) [
+      | yes l ↦ ⊎-elim (λ w. omega (arith, w .0)) (λ w. omega (arith, w)) (swept .sure l .1)
+      | no l ↦ ⊎-elim (λ q. omega (arith, q .to, q .small)) (λ w. omega (arith, w .1)) (swept .rest (omega arith))
+    ]
 
-module _ {c : Case} {m : Machine} {n : ℕ} {ahead : Bool} {asked : Asked} {spent out : List ℕ} {tally : Tally} (R : Ready c m n ahead asked spent out tally) where
+module _ {c : Case} {m : Machine} {n : ℕ} {ahead : Bool} {asked : Asked} {spent out : List ℕ} {tally : Tally} (R : Standing c m n ahead asked spent out tally) where
   abbrev W : Wish
   W = wanted asked
 
@@ -63,22 +57,6 @@ module _ {c : Case} {m : Machine} {n : ℕ} {ahead : Bool} {asked : Asked} {spen
 
   K : Known c (shown c m)
   K = known (R .reached)
-
-  -- what the branch of a step is given
-  pub ready-next : (j : ℕ) {now calm bytes : List ℕ} {y : Tally} {next : Machine} → Rested c (shown c m) (spentBy now) → stepCode c (shown c m) (stepAt c m j) ≡ 0 → RestedBy (shown c m) (stepAt c m j) now calm
-      → Took c m j next → y .full ≡ false → Held bytes (y .count) → Ready c next (n - 1) ahead asked calm bytes y
-  ready-next j {now} {calm} Q h rest took room held =
-      record {
-        valid = took .valid;
-        reached = subst (Reachable (womm c)) (sym (took .shows)) (reachable-step (womm c) (R .reached) (stepAt c m j) h);
-        forwards = R .forwards;
-        few = omega (arith, R .few);
-        asks = R .asks;
-        long = rest .long;
-        rested = subst (λ (s : State). Rested c s (spentBy calm)) (sym (took .shows)) (rested-after c W Z (shown c m) (spentBy now) K n Q (stepAt c m j) h (spentBy calm) (rest .calm));
-        room = room;
-        held = held;
-      }
 
   pub return-bound : n ≡ 0 → finished c (shown c m) ≡ false → (r : Tally) → r ≡ record { count = tally .count; cut = true; full = false } → Searched c W (spentBy spent) (shown c m) n out tally out r
   return-bound z f r e = subst (Searched c W (spentBy spent) (shown c m) n out tally out) (sym e) (searched-bound c W (shown c m) (spentBy spent) n z f (R .held))
@@ -136,31 +114,47 @@ module _ {c : Case} {m : Machine} {n : ℕ} {ahead : Bool} {asked : Asked} {spen
                 | no h ↦ opens-step c (shown c m) _ _ (chosen .rest (omega arith) .found l .0)
               ]
 
-          module _ {calm : List ℕ} (rest : RestedBy (shown c m) (stepAt c m i) now calm) {then : Machine} (took : Took c m i then) where
-            pub loop-ready : Ready c then (n - 1) ahead asked calm bytes sum
-            loop-ready = ready-next i (S .0 .sweep .rested) loop-open rest took (S .0 .room) (S .0 .held)
+          pub loop-ready : Ready c m i (n - 1) ahead asked now bytes sum
+          loop-ready =
+              record {
+                entering = record { valid = R .valid; fits = λ _. loop-open };
+                reached = R .reached;
+                forwards = R .forwards;
+                few = omega (arith, R .few);
+                asks = R .asks;
+                long = S .0 .long;
+                rested = S .0 .sweep .rested;
+                room = S .0 .room;
+                held = S .0 .held;
+              }
 
-            module _ {bytes′ : List ℕ} {sum′ : Tally} (D : Searched c W (spentBy calm) (shown c then) (n - 1) bytes sum bytes′ sum′) where
-              after-step : Searched c W (spentBy calm) (after c (shown c m) (stepAt c m i)) (n - 1) bytes sum bytes′ sum′
-              after-step = subst (λ (s : State). Searched c W (spentBy calm) s (n - 1) bytes sum bytes′ sum′) (took .shows) D
+          module _ {bytes′ : List ℕ} {sum′ : Tally} (D : Explored c W (shown c m) i now (n - 1) bytes sum bytes′ sum′) where
+            low : i < 3200
+            low = omega (arith, l, to-most swept)
 
-              pub loop-turn : (sum′ .full || ltb j 3200) ≡ false → {noted : List ℕ} → Noted now i noted → Turns (i + 1) noted bytes′ sum′
-              loop-turn on noted =
-                  let w = or-none (sum′ .full) (ltb j 3200) on in
-                  let past : 3200 ≤ j = ltb-false j 3200 (w .1) in
-                  (sweeping-turn c W Z (shown c m) (spentBy spent) K (n - 1) (r .from) (r .to) (S .0) i loop-open rest after-step (chosen .rest past) l (w .0) (found .none past) noted, λ h. absurd (omega arith))
+            rest : RestedBy (shown c m) (stepAt c m i) now (D .calm)
+            rest = D .woken .step low
 
-              pub return-branch : (sum′ .full || ltb j 3200) ≡ true → Searched c W (spentBy spent) (shown c m) n out tally bytes′ sum′
-              return-branch off = subst (λ (k : ℕ). Searched c W (spentBy spent) (shown c m) k out tally bytes′ sum′) one-more (⊎-elim full room (decide (sum′ .full)))
-                where
-                  full : sum′ .full ≡ true → Searched c W (spentBy spent) (shown c m) (suc (n - 1)) out tally bytes′ sum′
-                  full f = sweeping-full c W Z (shown c m) (spentBy spent) K (n - 1) (r .from) (r .to) (S .0) i loop-open rest after-step f
+            after-step : Searched c W (spentBy (D .calm)) (after c (shown c m) (stepAt c m i)) (n - 1) bytes sum bytes′ sum′
+            after-step = subst (λ (s : State). Searched c W (spentBy (D .calm)) s (n - 1) bytes sum bytes′ sum′) (entered-step c (shown c m) i low) (D .searched)
 
-                  room : sum′ .full ≡ false → Searched c W (spentBy spent) (shown c m) (suc (n - 1)) out tally bytes′ sum′
-                  room f =
-                      let h : j < 3200 = ltb-true j 3200 (⊎-elim (λ e. absurd (true≢false (sym e ∙ f))) (λ e. e) (or-cases (sum′ .full) (ltb j 3200) off)) in
-                      let p = subst (λ (k : ℕ). Alone c (tally .cut) (suc (n - 1)) (shown c m) (stepAt c m k)) (sym (at-sure h)) (sure-one h) in
-                      sweeping-sure c W Z (shown c m) (spentBy spent) K (n - 1) (r .from) (r .to) (S .0) i loop-open rest after-step p f
+            pub loop-turn : (sum′ .full || ltb j 3200) ≡ false → {noted : List ℕ} → Noted now i noted → Turns (i + 1) noted bytes′ sum′
+            loop-turn on noted =
+                let w = or-none (sum′ .full) (ltb j 3200) on in
+                let past : 3200 ≤ j = ltb-false j 3200 (w .1) in
+                (sweeping-turn c W Z (shown c m) (spentBy spent) K (n - 1) (r .from) (r .to) (S .0) i loop-open rest after-step (chosen .rest past) l (w .0) (found .none past) noted, λ h. absurd (omega arith))
+
+            pub return-branch : (sum′ .full || ltb j 3200) ≡ true → Searched c W (spentBy spent) (shown c m) n out tally bytes′ sum′
+            return-branch off = subst (λ (k : ℕ). Searched c W (spentBy spent) (shown c m) k out tally bytes′ sum′) one-more (⊎-elim full room (decide (sum′ .full)))
+              where
+                full : sum′ .full ≡ true → Searched c W (spentBy spent) (shown c m) (suc (n - 1)) out tally bytes′ sum′
+                full f = sweeping-full c W Z (shown c m) (spentBy spent) K (n - 1) (r .from) (r .to) (S .0) i loop-open rest after-step f
+
+                room : sum′ .full ≡ false → Searched c W (spentBy spent) (shown c m) (suc (n - 1)) out tally bytes′ sum′
+                room f =
+                    let h : j < 3200 = ltb-true j 3200 (⊎-elim (λ e. absurd (true≢false (sym e ∙ f))) (λ e. e) (or-cases (sum′ .full) (ltb j 3200) off)) in
+                    let p = subst (λ (k : ℕ). Alone c (tally .cut) (suc (n - 1)) (shown c m) (stepAt c m k)) (sym (at-sure h)) (sure-one h) in
+                    sweeping-sure c W Z (shown c m) (spentBy spent) K (n - 1) (r .from) (r .to) (S .0) i loop-open rest after-step p f
 
       pub return-swept : finished c (shown c m) ≡ false → {at : ℕ} {now bytes : List ℕ} {sum : Tally} → Turns at now bytes sum → r .to ≤ at → Searched c W (spentBy spent) (shown c m) n out tally bytes sum
       return-swept f {at} {now} {bytes} {sum} S end = subst (λ (k : ℕ). Searched c W (spentBy spent) (shown c m) k out tally bytes sum) one-more ends
@@ -181,14 +175,6 @@ module _ {c : Case} {m : Machine} {n : ℕ} {ahead : Bool} {asked : Asked} {spen
 
           ends : Searched c W (spentBy spent) (shown c m) (suc (n - 1)) out tally bytes sum
           ends = elim (decLt j 3200) [ yes l ↦ by-sure l | no l ↦ by-rest (omega arith) ]
-
--- no position is past 3200
-pub to-most : {c : Case} {s : State} {spent : List ℕ} {j : ℕ} {r : Span} → Swept c s spent j r → r .to ≤ 3200
-to-most {j = j} {r = r} swept =
-    elim (decLt j 3200) [
-      | yes l ↦ ⊎-elim (λ w. omega (arith, w .0)) (λ w. omega (arith, w)) (swept .sure l .1)
-      | no l ↦ ⊎-elim (λ q. omega (arith, q .to, q .small)) (λ w. omega (arith, w .1)) (swept .rest (omega arith))
-    ]
 
 -- the invariant of equal words, bytes and tally
 pub turns-same : {c : Case} {W : Wish} {sp : Spent} {s : State} {n : ℕ} {before : List ℕ} {y : Tally} {from to at j : ℕ} {now now′ bytes bytes′ : List ℕ} {sum sum′ : Tally} → bytes′ ≡ bytes → now′ ≡ now → sum′ ≡ sum

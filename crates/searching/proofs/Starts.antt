@@ -3,6 +3,7 @@ use mathlib.Core.Path.{_≡_, refl, sym, _∙_, ap, subst, fun-ext}
 use mathlib.Core.Bool.{Bool, true, false, false≢true}
 use mathlib.Core.List.{List, List·Memᴰ·not-nil}
 use Prim.Native.Nat.{ℕ, zero, suc, _≤_}
+use native.Mathlib.Omega.{arith}
 use lib.Dec.{eqb, ltb}
 use lib.ListN.{length, replicate, getD}
 use Rattle.words.specs.Sets.{has}
@@ -26,7 +27,7 @@ use Rattle.records.proofs.Buffer.{held-zeros}
 use Rattle.spending.specs.Words.{spentBy}
 use Rattle.searching.specs.declared.Tally.{Tally}
 use Rattle.searching.specs.Ready.{Ready}
-use Rattle.searching.specs.Searched.{Tells, Searched}
+use Rattle.searching.specs.Searched.{Tells, Searched, Explored}
 
 -- nothing is spent at the start
 
@@ -55,10 +56,10 @@ empty = record { count = 0; cut = false; full = false }
 
 -- what the search is given
 pub ready-start : {c : Case} {m : Machine} {n : ℕ} {ahead : Bool} {asked : Asked} (size : ℕ) {zeros : List ℕ} → Reachable (womm c) (shown c m) → Valid c m → ahead ≡ forward c → n ≤ 96 → Askable asked → zeros ≡ replicate size 0
-    → Ready c m n ahead asked (replicate 50 0) zeros empty
+    → Ready c m 3200 n ahead asked (replicate 50 0) zeros empty
 ready-start {c} {m} size {zeros} reached valid forwards few asks cleared =
     record {
-      valid = valid;
+      entering = record { valid = valid; fits = λ l. absurd (omega arith) };
       reached = reached;
       forwards = forwards;
       few = few;
@@ -68,6 +69,10 @@ ready-start {c} {m} size {zeros} reached valid forwards few asks cleared =
       room = refl;
       held = held-zeros size zeros cleared;
     }
+
+-- it goes on from the machine itself
+pub searched-start : {c : Case} {W : Wish} {s : State} {spent : List ℕ} {n : ℕ} {before bytes : List ℕ} {y z : Tally} → Explored c W s 3200 spent n before y bytes z → Searched c W (spentBy spent) s n before y bytes z
+searched-start {c} {W} {s} {n = n} {before} {bytes} {y} {z} D = subst (λ (x : List ℕ). Searched c W (spentBy x) s n before y bytes z) (D .woken .none (omega arith)) (D .searched)
 
 -- an empty buffer tells nothing
 pub tells-nothing : (bytes : List ℕ) (q : Question) → Tells bytes empty q → ⊥

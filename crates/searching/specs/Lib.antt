@@ -1,3 +1,4 @@
 pub mod Positions
+pub mod Entered
 pub mod Ready
 pub mod Searched

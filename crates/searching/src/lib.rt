@@ -11,10 +11,11 @@ ghost use Rattle.rules.specs.Result.{finished};
 ghost use Rattle.sure.specs.Spent.{Spent};
 ghost use Rattle.machine.specs.Shown.{shown};
 ghost use Rattle.machine.specs.Valid.{Valid};
-ghost use Rattle.spending.specs.Words.{spentBy};
+ghost use Rattle.machine.specs.Given.{Showing};
+ghost use Rattle.searching.specs.Entered.{entered, Woken};
 ghost use Rattle.searching.specs.Positions.{Swept, Chosen};
-ghost use Rattle.searching.specs.Ready.{Ready, Finishing};
-ghost use Rattle.searching.specs.Searched.{Searched};
+ghost use Rattle.searching.specs.Ready.{Ready, Finishing, Waking, Entering};
+ghost use Rattle.searching.specs.Searched.{Searched, Explored};
 
 // How many records the buffer holds, whether a run was cut, and whether there was no room.
 pub struct Tally {
@@ -104,20 +105,45 @@ fn leave_off(tally: Tally) -> Tally
     }
 }
 
-// Adds the outcomes of m within n steps that meet the clauses: a sure step alone, and any issue once a run was cut; else a quiet read with each of its sources; else every step. What is spent is left out.
+// Leaves what stays spent where the search goes on.
+fn wake(c: Case, m: Machine, spent: &mut [u64; 50], i: usize)
+    requires { ⌜ Waking c m i (now spent) ⌝ }
+    ensures { λ _. ⌜ Woken (shown c m) i (now (spent .entry)) (now (spent .exit)) ⌝ }
+{
+    if i < 3200 {
+        spending::rest(c, m, spent, i);
+    }
+}
+
+// The machine after the step at position i, or m itself where there is none.
+fn enter(c: Case, m: Machine, i: usize) -> Machine
+    requires { ⌜ Entering c m i ⌝ }
+    ensures { λ r. ⌜ Showing c (entered c (shown c m) i) r ⌝ }
+{
+    if 3200 <= i {
+        return m;
+    }
+    choices::take(c, m, i)
+}
+
+// Adds the outcomes that meet the clauses within n steps after the step at position i of m, or from m where i is 3200: a sure step alone, and any issue once a run was cut; else a quiet read with each of its sources; else every step. What is spent is left out.
 pub fn explore(
     c: Case,
-    m: Machine,
+    mut m: Machine,
+    i: usize,
     n: usize,
     ahead: bool,
     asked: Asked,
-    spent: [u64; 50],
+    spent: &[u64; 50],
     out: &mut [u8],
     tally: Tally,
 ) -> Tally
-    requires { ⌜ Ready c m n ahead asked spent (now out) tally ⌝ }
-    ensures { λ r. ⌜ Searched c (wanted asked) (spentBy spent) (shown c m) n (now (out .entry)) tally (now (out .exit)) r ⌝ }
+    requires { ⌜ Ready c m i n ahead asked (now spent) (now out) tally ⌝ }
+    ensures { λ r. ⌜ Explored c (wanted asked) (shown c m) i (now (spent .entry)) n (now (out .entry)) tally (now (out .exit)) r ⌝ }
 {
+    let mut now = *spent;
+    wake(c, m, &mut now, i);
+    m = enter(c, m, i);
     let done = machine::finished(c, m);
     if done {
         return finish(c, m, asked, out, tally);
@@ -129,31 +155,20 @@ pub fn explore(
         return leave_off(tally);
     }
     let j = choices::sure_step(c, m, n, ahead, tally.cut);
-    let span = positions(c, m, &spent, j);
+    let span = positions(c, m, &now, j);
     let to = span.to;
     let mut at = span.from;
-    let mut now = spent;
     let mut sum = tally;
     while at < to {
-        let i = choose(c, m, &now, at, to, j);
-        if i < to {
-            let calm = spending::rest(c, m, now, i);
-            sum = explore(
-                c,
-                choices::take(c, m, i),
-                n - 1,
-                ahead,
-                asked,
-                calm,
-                out,
-                sum,
-            );
+        let k = choose(c, m, &now, at, to, j);
+        if k < to {
+            sum = explore(c, m, k, n - 1, ahead, asked, &now, out, sum);
             if sum.full | (j < 3200) {
                 return sum;
             }
-            now = spending::note(now, i);
+            spending::note(&mut now, k);
         }
-        at = i + 1;
+        at = k + 1;
     }
     sum
 }

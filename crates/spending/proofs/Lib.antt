@@ -1,3 +1,2 @@
-pub mod Bits
 pub mod Spends
 pub mod Rests

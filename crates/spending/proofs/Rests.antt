@@ -103,7 +103,7 @@ pub issue-other : (x q p n : ℕ) (bit word : ℕ) → n + 1 < 48 → has bit q 
 issue-other x q p n bit word h e w = w ∙ rw (e, borrow.Author.Tests.lt-leb 48 (suc n) (omega arith)) (ap (λ (b : Bool). has x q && not b) (sym (or-nothing (eqb q p))))
 
 -- the kind of an action that is not issued
-pub unissued-kind : (c : Case) (n : ℕ) (acts : List Entry) (k : ℕ) → n ≤ k → kindOf (actionsOf c n acts k) ≡ 6 → ⊥
+pub unissued-kind : (c : Case) (n : ℕ) (acts : List ℕ) (k : ℕ) → n ≤ k → kindOf (actionsOf c n acts k) ≡ 6 → ⊥
 unissued-kind c n acts k h e = let q : actionsOf c n acts k ≡ unissued = rw (le-ltb k n h) in omega (arith, sym (ap kindOf q) ∙ e)
 
 -- the key of a position
@@ -133,7 +133,7 @@ module _ (s : State) (now : List ℕ) (long : length now ≡ 50) where
       calm f (issuing p) = refl
 
   -- an acquire wakes the acquires of its location
-  pub rest-acquire : (c : Case) (acts : List Entry) (e : Entry) (gone : ℕ) (less : List ℕ) (j k : ℕ) → Acts c (s .count) acts s → j / 64 < 49 → k ≡ actionAt j → s .actions k ≡ shownEntry c e → SetOf (s .count) (λ i. rivals s (shownEntry c e) (s .actions i)) gone → Cleared now gone 48 less → RestedBy s (stepBy s (keyAt j)) now less
+  pub rest-acquire : (c : Case) (acts : List ℕ) (e : Entry) (gone : ℕ) (less : List ℕ) (j k : ℕ) → Acts c (s .count) acts s → j / 64 < 49 → k ≡ actionAt j → s .actions k ≡ shownEntry c e → SetOf (s .count) (λ i. rivals s (shownEntry c e) (s .actions i)) gone → Cleared now gone 48 less → RestedBy s (stepBy s (keyAt j)) now less
   unfolding spentBy
   rest-acquire c acts e gone less j k A h q z set C =
       subst (λ (a : Key). RestedBy s (stepBy s a) now less) (sym (key-taken j h)) (record { long = C .long; calm = calm (sourceAt j) })

@@ -8,10 +8,11 @@ ghost use Prim.Native.Nat.{ℕ, suc, _/_, _%_, _≤_, _<_};
 ghost use lib.Dec.{eqb, ltb, leb};
 ghost use lib.ListN.{length};
 ghost use Rattle.words.specs.Sets.{has as inSet};
+ghost use Rattle.cases.specs.declared.Case.{Case as TheCase};
 ghost use Rattle.rules.specs.State.{State};
 ghost use Rattle.sure.specs.Spent.{stepBy, rivals as areRivals};
 ghost use Rattle.orders.specs.Rows.{SetOf};
-ghost use Rattle.machine.specs.Shown.{shownEntry, shown, Acts};
+ghost use Rattle.machine.specs.Shown.{shownEntry, shown, Presets, Acts};
 ghost use Rattle.spending.specs.Words.{keyAt, spentBy};
 ghost use Rattle.spending.specs.Spending.{Noted, RestedBy, Cleared};
 ghost use Rattle.spending.specs.Given.{Noting, Resting};
@@ -48,52 +49,56 @@ pub fn is_spent(spent: &[u64; 50], j: usize) -> bool
 }
 
 // The step at position j is spent too.
-pub fn note(spent: [u64; 50], j: usize) -> [u64; 50]
-    requires { ⌜ Noting spent j ⌝ }
-    ensures { λ r. ⌜ Noted spent j r ⌝ }
+pub fn note(spent: &mut [u64; 50], j: usize)
+    requires { ⌜ Noting (now spent) j ⌝ }
+    ensures { λ _. ⌜ Noted (now (spent .entry)) j (now (spent .exit)) ⌝ }
 {
     let w = j / 64;
     let bit = words::one(j % 64);
-    let mut more = spent;
-    more[w] = more[w] | bit;
-    more
+    let word = spent[w];
+    spent[w] = word | bit;
 }
 
-// The set x without what it has in common with y.
-fn minus(x: u64, y: u64) -> u64
-    ensures { λ r. ⌜ ((a : ℕ) → inSet r a ≡ (inSet x a && not (inSet y a))) ⌝ }
+// Whether the entry and action k are acquires of one location.
+fn rivals<'a>(
+    masks: &'a [u8; 4],
+    presets: &'a [u16; 32],
+    acts: &'a [u64; 48],
+    issued: usize,
+    e: Entry,
+    k: usize,
+) -> bool
+    requires { ⌜ (issued ≤ 48) × (k < issued) ⌝ }
+    ensures { λ r. ⌜ ((c : TheCase) (s : State) → Presets c (now (masks .entry)) (now (presets .entry)) → Acts c issued (now (acts .entry)) s → r ≡ areRivals s (shownEntry c e) (s .actions k)) ⌝ }
 {
-    x ^ (x & y)
-}
-
-// Whether both are acquires of one location.
-fn rivals(c: Case, acts: [Entry; 48], issued: usize, a: Entry, b: Entry) -> bool
-    requires { ⌜ (issued ≤ 48) × (length acts ≡ 48) ⌝ }
-    ensures { λ r. ⌜ ((s : State) → Acts c issued acts s → r ≡ areRivals s (shownEntry c a) (shownEntry c b)) ⌝ }
-{
-    let i = a.instr;
+    let i = e.instr;
     if rules::kind_of(i) != 6 {
         return false;
     }
-    let i = b.instr;
-    if rules::kind_of(i) != 6 {
+    if machine::kind_at(acts, k) != 6 {
         return false;
     }
-    let x = committing::input(c, acts, issued, a.first);
-    let y = committing::input(c, acts, issued, b.first);
+    let b = machine::entry_at(acts, k);
+    let x = committing::input(masks, presets, acts, issued, e.first);
+    let y = committing::input(masks, presets, acts, issued, b.first);
     x == y
 }
 
 // The acquires of the location that action e acquires.
-fn woken(c: Case, acts: [Entry; 48], issued: usize, e: Entry) -> u64
-    requires { ⌜ (issued ≤ 48) × (length acts ≡ 48) ⌝ }
-    ensures { λ r. ⌜ ((s : State) → Acts c issued acts s → SetOf issued (λ k. areRivals s (shownEntry c e) (s .actions k)) r) ⌝ }
+fn woken<'a>(
+    masks: &'a [u8; 4],
+    presets: &'a [u16; 32],
+    acts: &'a [u64; 48],
+    issued: usize,
+    e: Entry,
+) -> u64
+    requires { ⌜ issued ≤ 48 ⌝ }
+    ensures { λ r. ⌜ ((c : TheCase) (s : State) → Presets c (now (masks .entry)) (now (presets .entry)) → Acts c issued (now (acts .entry)) s → SetOf issued (λ k. areRivals s (shownEntry c e) (s .actions k)) r) ⌝ }
 {
     let mut items: u64 = 0;
     let mut k: usize = 0;
     while k < issued {
-        let b = acts[k];
-        let test = rivals(c, acts, issued, e, b);
+        let test = rivals(masks, presets, acts, issued, e, k);
         items = orders::with(items, k, test);
         k += 1;
     }
@@ -110,20 +115,20 @@ fn word_unless(x: u64, gone: bool) -> u64
     x
 }
 
-// The words without the commits of the actions of a set.
-fn cleared(spent: [u64; 50], gone: u64) -> [u64; 50]
-    requires { ⌜ length spent ≡ 50 ⌝ }
-    ensures { λ r. ⌜ Cleared spent gone 48 r ⌝ }
+// Takes the commits of the actions of a set out of the words.
+fn clear(spent: &mut [u64; 50], gone: u64)
+    requires { ⌜ length (now spent) ≡ 50 ⌝ }
+    ensures { λ _. ⌜ Cleared (now (spent .entry)) gone 48 (now (spent .exit)) ⌝ }
 {
-    let mut less = spent;
-    less[48] = minus(less[48], gone);
+    let lone = spent[48];
+    spent[48] = orders::minus(lone, gone);
     let mut k: usize = 0;
     while k < 48 {
+        let word = spent[k];
         let test = words::has(gone, k);
-        less[k] = word_unless(less[k], test);
+        spent[k] = word_unless(word, test);
         k += 1;
     }
-    less
 }
 
 // The processors of a set whose issues stay spent when p issues.
@@ -135,30 +140,28 @@ fn still_spent(x: u64, issued: usize, p: usize) -> u64
         return 0;
     }
     let bit = words::one(p);
-    minus(x, bit)
+    orders::minus(x, bit)
 }
 
-// What stays spent when the step at position j is taken.
-pub fn rest(c: Case, m: Machine, spent: [u64; 50], j: usize) -> [u64; 50]
-    requires { ⌜ Resting c m spent j ⌝ }
-    ensures { λ r. ⌜ RestedBy (shown c m) (stepBy (shown c m) (keyAt j)) spent r ⌝ }
+// Leaves what stays spent when the step at position j is taken: an issue and an acquire's commit alone wake steps.
+pub fn rest(c: Case, m: Machine, spent: &mut [u64; 50], j: usize)
+    requires { ⌜ Resting c m (now spent) j ⌝ }
+    ensures { λ _. ⌜ RestedBy (shown c m) (stepBy (shown c m) (keyAt j)) (now (spent .entry)) (now (spent .exit)) ⌝ }
 {
     let issued = m.issued;
-    let mut less = spent;
     if 49 <= j / 64 {
-        less[49] = still_spent(less[49], issued, j % 64);
-        return less;
+        let issues = spent[49];
+        spent[49] = still_spent(issues, issued, j % 64);
+        return;
     }
     let k = action_at(j);
     if issued <= k {
-        return less;
+        return;
     }
-    let acts = m.acts;
-    let e = acts[k];
-    let i = e.instr;
-    if rules::kind_of(i) != 6 {
-        return less;
+    if machine::kind_at(&m.acts, k) != 6 {
+        return;
     }
-    let gone = woken(c, acts, issued, e);
-    cleared(less, gone)
+    let e = machine::entry_at(&m.acts, k);
+    let gone = woken(&c.masks, &c.presets, &m.acts, issued, e);
+    clear(spent, gone);
 }

@@ -13,7 +13,8 @@ use Rattle.rules.specs.State.{State, Action}
 use Rattle.rules.specs.Step.{Step, issue, commit, stepOf, naming, stepCode, stepPlace, placeIn}
 use Rattle.rules.proofs.Named.{formed, issue-named, commit-named, place-named, place-unnamed}
 use Rattle.machine.specs.declared.Machine.{Machine}
-use Rattle.machine.specs.Shown.{placeOf, blankEntry, shown}
+use Rattle.machine.specs.Word.{entryOf}
+use Rattle.machine.specs.Shown.{placeOf, shown}
 use Rattle.machine.specs.Valid.{Valid}
 use Rattle.machine.proofs.Entries.{action-at}
 use Rattle.stepping.proofs.Bytes.{issue-formed, commit-formed}
@@ -58,6 +59,6 @@ module _ (c : Case) (m : Machine) (v : Valid c m) (kind p k e code : ℕ) (is : 
       pub commit-low : k < 48
       commit-low = omega (arith, v .issued, old)
 
-      pub commit-place : getD (m .acts) k blankEntry .place ≡ stepPlace c s t
+      pub commit-place : entryOf (getD (m .acts) k 0) .place ≡ stepPlace c s t
       commit-place =
           sym (place-named c s t named ∙ ap (placeIn c s) other ∙ ap (λ (a : Action). a .place) (action-at c (m .issued) (m .acts) s (record { count = refl; actions = refl }) k old))

@@ -7,16 +7,10 @@ ghost use Rattle.rules.specs.Step.{stepOf, stepCode, naming, stepPlace, after};
 ghost use Rattle.machine.specs.Shown.{shown};
 ghost use Rattle.machine.specs.Valid.{Valid};
 ghost use Rattle.machine.specs.Given.{Accepted, Showing};
-ghost use Rattle.stepping.specs.Taken.{Coded, Taken};
-
-pub struct Stepped {
-    pub code: u8,
-    pub place: u8,
-    pub machine: Machine,
-}
+ghost use Rattle.stepping.specs.Coded.{Coded};
 
 // The code that a step gets.
-fn code_of(c: Case, m: Machine, kind: u8, proc: u8, action: u8, source: u8) -> u8
+pub fn code_of(c: Case, m: Machine, kind: u8, proc: u8, action: u8, source: u8) -> u8
     requires { ⌜ Valid c m ⌝ }
     ensures { λ r. ⌜ r ≡ stepCode c (shown c m) (stepOf kind proc action source) ⌝ }
 {
@@ -27,7 +21,6 @@ fn code_of(c: Case, m: Machine, kind: u8, proc: u8, action: u8, source: u8) -> u
         return 20;
     }
     let p = words::wide(proc);
-    let acts = m.acts;
     let issued = m.issued;
     if kind == 0 {
         if action != 0 {
@@ -36,11 +29,24 @@ fn code_of(c: Case, m: Machine, kind: u8, proc: u8, action: u8, source: u8) -> u
         if source != 0 {
             return 20;
         }
-        return issuing::issue_code(c, &m.places, &m.names, acts, issued, p);
+        return issuing::issue_code(c, &m.places, &m.names, &m.acts, issued, p);
     }
     let k = words::wide(action);
     let e = words::wide(source);
-    committing::commit_code(c, acts, &m.rows, &m.holders, issued, p, k, e)
+    let locs = c.locs;
+    committing::commit_code(
+        &c.masks,
+        &c.presets,
+        &m.acts,
+        &m.rows,
+        &m.sets,
+        &m.holders,
+        locs,
+        issued,
+        p,
+        k,
+        e,
+    )
 }
 
 // Whether a code names an instruction.
@@ -51,7 +57,7 @@ fn names(code: u8) -> bool
 }
 
 // The place that goes with the code of a step: of an issue the place counter, of a commit the action's; 255 where the code names none.
-fn place_of(c: Case, m: Machine, kind: u8, proc: u8, action: u8, source: u8, code: u8) -> u8
+pub fn place_of(c: Case, m: Machine, kind: u8, proc: u8, action: u8, source: u8, code: u8) -> u8
     requires { ⌜ Coded c m (stepOf kind proc action source) code ⌝ }
     ensures { λ r. ⌜ r ≡ stepPlace c (shown c m) (stepOf kind proc action source) ⌝ }
 {
@@ -59,14 +65,14 @@ fn place_of(c: Case, m: Machine, kind: u8, proc: u8, action: u8, source: u8, cod
         if kind == 0 {
             return m.places[proc as usize];
         }
-        let e = m.acts[action as usize];
+        let e = machine::entry_at(&m.acts, action as usize);
         return e.place;
     }
     255
 }
 
 // The machine after a step that nothing refuses.
-fn taken(c: Case, m: Machine, kind: u8, proc: u8, action: u8, source: u8) -> Machine
+pub fn taken(c: Case, m: Machine, kind: u8, proc: u8, action: u8, source: u8) -> Machine
     requires { ⌜ Accepted c m (stepOf kind proc action source) ⌝ }
     ensures { λ r. ⌜ Showing c (after c (shown c m) (stepOf kind proc action source)) r ⌝ }
 {
@@ -77,24 +83,4 @@ fn taken(c: Case, m: Machine, kind: u8, proc: u8, action: u8, source: u8) -> Mac
     let k = words::wide(action);
     let e = words::wide(source);
     committing::commit(c, m, p, k, e)
-}
-
-// One step.
-pub fn step(c: Case, m: Machine, kind: u8, proc: u8, action: u8, source: u8) -> Stepped
-    requires { ⌜ Valid c m ⌝ }
-    ensures { λ r. ⌜ Taken c m (stepOf kind proc action source) r ⌝ }
-{
-    let code = code_of(c, m, kind, proc, action, source);
-    if code != 0 {
-        return Stepped {
-            code,
-            place: place_of(c, m, kind, proc, action, source, code),
-            machine: m,
-        };
-    }
-    Stepped {
-        code: 0,
-        place: 255,
-        machine: taken(c, m, kind, proc, action, source),
-    }
 }

@@ -1,10 +1,11 @@
 -- The step at a position. Assumes nothing.
-use mathlib.Core.Path.{refl, sym, ap}
+use mathlib.Core.Path.{refl, sym, ap, _∙_}
 use Prim.Native.Nat.{_/_, _<_}
 use native.Mathlib.Omega.{arith}
 use lib.Dec.{ltb}
 use Rattle.rules.specs.State.{Action}
 use Rattle.rules.specs.Bytes.{stepBytes}
+use Rattle.machine.specs.declared.Entry.{Entry}
 use Rattle.machine.specs.Shown.{shown}
 use Rattle.machine.proofs.Entries.{action-at as action-is}
 use Rattle.choices.proofs.Answers.{issue-at, commit-at, there-at}
@@ -17,66 +18,50 @@ use Rattle.asking.proofs.bytes_at.Lts as lts
 use Rattle.spending.proofs.action_at.Reads as action-at-reads
 use Rattle.choices.proofs.source_at.Reads as source-at-reads
 
--- src/lib.rt:154:19
 cast-t10 : tie.Need-cast-t10
 cast-t10 c = search needs
 
--- src/lib.rt:152:9
 returns : tie.Need-returns
 returns c = let a = c .before .args in ap stepBytes (sym (issue-at (a .c) (shown (a .c) (a .t2)) (a .j) (c .if1 .taken)))
 
--- src/lib.rt:159:9
 action-at-requires : tie.Need-action-at-requires
 action-at-requires c κs = search needs
 
--- src/lib.rt:160:13
-mul-e : tie.Need-mul-e
-mul-e c =
-    let b = c .before .before in
+entry-at-requires : tie.Need-entry-at-requires
+entry-at-requires c κs =
+    let b = c .before .before .before .before in
     let a = b .args in
-    let l = there-at (a .c) (shown (a .c) (a .t2)) (a .j) (c .action-at .result) (c .before .if1 .left) (c .action-at .ensures) (b .pre .fits) in
-    let k : c .action-at .result < 48 = omega (arith, b .pre .valid .issued) in
-    search needs
-
--- src/lib.rt:160:13
-element-copy-out-e : tie.Need-element-copy-out-e
-element-copy-out-e c =
-    let b = c .before .before in
-    let a = b .args in
-    let l = there-at (a .c) (shown (a .c) (a .t2)) (a .j) (c .action-at .result) (c .before .if1 .left) (c .action-at .ensures) (b .pre .fits) in
+    let u = c .before .before .action-at in
+    let l = there-at (a .c) (shown (a .c) (a .t2)) (a .j) (u .result) (c .before .before .before .if1 .left) (u .ensures) (b .pre .fits) in
     omega (arith, b .pre .valid .issued)
 
--- src/lib.rt:164:17
-cast-t14 : tie.Need-cast-t14
-cast-t14 c =
-    let b = c .before .before .before in
+cast-t12 : tie.Need-cast-t12
+cast-t12 c =
+    let b = c .before .before .before .before .before in
     let a = b .args in
-    let u = c .before .action-at in
-    let l = there-at (a .c) (shown (a .c) (a .t2)) (a .j) (u .result) (c .before .before .if1 .left) (u .ensures) (b .pre .fits) in
+    let u = c .before .before .before .action-at in
+    let l = there-at (a .c) (shown (a .c) (a .t2)) (a .j) (u .result) (c .before .before .before .before .if1 .left) (u .ensures) (b .pre .fits) in
     let k : u .result < 48 = omega (arith, b .pre .valid .issued) in
     search needs
 
--- src/lib.rt:165:17
 source-at-requires : tie.Need-source-at-requires
 source-at-requires c κs = search needs
 
--- src/lib.rt:165:17
-cast-t15 : tie.Need-cast-t15
-cast-t15 c =
-    let a = c .before .before .before .before .args in
+cast-t13 : tie.Need-cast-t13
+cast-t13 c =
+    let a = c .before .before .before .before .before .before .args in
     let l = source-small (ltb (a .j / 64) 48) (c .source-at .result) (a .j) (c .source-at .ensures) in
     search needs
 
--- src/lib.rt:147:1
 returns-2 : tie.Need-returns-2
 returns-2 c =
-    let b = c .before .before .before .before in
+    let b = c .before .before .before .before .before .before in
     let a = b .args in
     let s = shown (a .c) (a .t2) in
-    let u = c .before .before .action-at in
-    let h = c .before .before .before .if1 .left in
+    let u = c .before .before .before .before .action-at in
+    let h = c .before .before .before .before .before .if1 .left in
     let l = there-at (a .c) s (a .j) (u .result) h (u .ensures) (b .pre .fits) in
-    ap stepBytes (sym (commit-at (a .c) s (a .j) _ (u .result) (c .source-at .result) h (u .ensures) (c .source-at .ensures) (sym (ap (λ (x : Action). x .proc) (action-is (a .c) (a .t2 .issued) (a .t2 .acts) s (record { count = refl; actions = refl }) (u .result) l)))))
+    ap stepBytes (sym (commit-at (a .c) s (a .j) _ (u .result) (c .source-at .result) h (u .ensures) (c .source-at .ensures) (ap (λ (x : Entry). x .proc) (c .before .entry-at .ensures) ∙ sym (ap (λ (x : Action). x .proc) (action-is (a .c) (a .t2 .issued) (a .t2 .acts) s (record { count = refl; actions = refl }) (u .result) l)))))
 
 pub bytes-at-spec : {M : Type 1} → statement M
 bytes-at-spec =
@@ -85,9 +70,8 @@ bytes-at-spec =
     cast-t10
     returns
     action-at-requires
-    mul-e
-    element-copy-out-e
-    cast-t14
+    entry-at-requires
+    cast-t12
     source-at-requires
-    cast-t15
+    cast-t13
     returns-2)

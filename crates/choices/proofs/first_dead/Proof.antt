@@ -1,39 +1,48 @@
 use borrow.Author.Needs.{needs}
 use Rattle.choices.proofs.Answers.{dead-at}
-use Rattle.machine.proofs.Entries.{action-at}
-use Rattle.rules.specs.Kinds.{reading}
-use Rattle.rules.specs.State.{Action, kindOf}
+use Rattle.choices.proofs.Opens.{entry-in}
+use Rattle.committing.proofs.Refusing.{loc-low}
 use Rattle.words.specs.Sets.{has}
-use Rattle.words.proofs.Bools.{and-both}
+use lib.ListN.{getD}
 use native.Mathlib.Omega.{arith}
 use Prim.Native.Nat.{_≤_, _<_, _-_}
-use mathlib.Core.Path.{_∙_, sym, ap}
+use mathlib.Core.Path.{_∙_, sym}
 use Rattle.choices.proofs.first_dead.Statement.{statement}
 use Rattle.choices.proofs.first_dead.Tie as tie
 
 abbrev Inv-loop : tie.InvT-loop
-Inv-loop c names rows issued acts inner k₀ k = k ≤ issued
+Inv-loop masks names rows sets acts procs issued reads inner k₀ k = k ≤ issued
 
 abbrev μ-loop : tie.MeasureT-loop
-μ-loop c names rows issued acts inner k₀ k = issued - k
+μ-loop masks names rows sets acts procs issued reads inner k₀ k = issued - k
+
+queued-reads-requires : tie.Need-queued-reads-requires Inv-loop μ-loop
+queued-reads-requires c κs = search needs
+
+returns : tie.Need-returns Inv-loop μ-loop
+returns c = λ t s E n l. absurd (omega arith)
 
 ignored-requires : tie.Need-ignored-requires Inv-loop μ-loop
 ignored-requires c κs = search needs
 
+first-of-requires : tie.Need-first-of-requires Inv-loop μ-loop
+first-of-requires c κs = search needs
+
 loop-holds : tie.Need-loop-holds Inv-loop μ-loop
-loop-holds c = search needs
+loop-holds c = c .first-of .ensures .upto
 
-mul-a : tie.Need-mul-a Inv-loop μ-loop
-mul-a c = search needs
+has-requires : tie.Need-has-requires Inv-loop μ-loop
+has-requires c κs = search needs
 
-array-copy-out-a : tie.Need-array-copy-out-a Inv-loop μ-loop
-array-copy-out-a c = search needs
-
-read-in-requires : tie.Need-read-in-requires Inv-loop μ-loop
-read-in-requires c κs = search needs
+entry-at-requires : tie.Need-entry-at-requires Inv-loop μ-loop
+entry-at-requires c κs = search needs
 
 sources-requires : tie.Need-sources-requires Inv-loop μ-loop
-sources-requires c κs = search needs
+sources-requires c κs =
+    let b = c .before .before .before .before .before .before .before .before .before in
+    let k = c .before .before .before .before .loop .k in
+    let l : k < b .args .issued = omega (arith, c .before .before .before .loop-test .taken) in
+    record { few = b .pre .few; low = omega (arith, l, b .pre .issued); loc = loc-low (c .entry-at .result) (getD (b .args .acts .now) k 0) (c .entry-at .ensures) }
 
 lowest-requires : tie.Need-lowest-requires Inv-loop μ-loop
 lowest-requires c κs = search needs
@@ -44,33 +53,32 @@ mul-result c = search needs
 add-result : tie.Need-add-result Inv-loop μ-loop
 add-result c = search needs
 
-returns : tie.Need-returns Inv-loop μ-loop
-returns c =
-    let at = c .before .before in
-    let r = at .before .before .read-in in
-    let here = at .before .before .before .before .before in
-    let k = here .loop .k in
-    let u = here .before .ignored in
-    let b = here .before .before in
+returns-2 : tie.Need-returns-2 Inv-loop μ-loop
+returns-2 c =
+    let e = c .before .lowest in
+    let v = c .before .before in
+    let at = v .before .before .before .before .before in
+    let u = at .before .before .ignored in
+    let b = at .before .before .before .before .before in
     let a = b .args in
-    let l : k < a .issued = omega (arith, at .before .before .before .before .loop-test .taken) in
-    λ s h n o z.
-    let w = and-both _ (has (u .result) k) (sym (r .ensures (a .c)) ∙ at .before .if1 .taken) in
-    dead-at (a .c) s k (c .before .lowest .result) (omega (arith, b .pre .issued)) (c .if2 .taken)
-    (sym (at .sources .ensures s h o (c .before .lowest .result)) ∙ c .before .lowest .ensures (c .if2 .taken))
-    (record { reads = ap (λ (x : Action). reading (kindOf x)) (action-at (a .c) (a .issued) (a .t4) s h k l) ∙ w .0; set = has (u .result); ignored = u .ensures (a .c) s h n; among = w .1 })
+    let k = at .loop .k in
+    let l : k < a .issued = omega (arith, v .before .before .before .before .loop-test .taken) in
+    λ t s E n z. dead-at t s k (e .result) (omega (arith, l, b .pre .issued)) (c .if3 .taken) (sym (v .sources .ensures t s (entry-in t s (a .masks .now) (a .rows .now) (a .sets .now) (a .procs) (a .issued) (a .acts .now) E (b .pre .issued) k l (v .before .entry-at .result) (v .before .entry-at .ensures)) (e .result)) ∙ e .ensures .inside (c .if3 .taken)) (has (u .result)) (u .ensures t s (E .shows) n) (sym (v .before .before .before .has .ensures) ∙ v .before .before .if2 .taken)
 
-add-k : tie.Need-add-k Inv-loop μ-loop
-add-k c = search needs
+add-first-of : tie.Need-add-first-of Inv-loop μ-loop
+add-first-of c = search needs
+
+first-of-requires-2 : tie.Need-first-of-requires-2 Inv-loop μ-loop
+first-of-requires-2 c κs = search needs
 
 loop-less : tie.Need-loop-less Inv-loop μ-loop
-loop-less c = search needs
+loop-less c = omega (arith, c .first-of2 .ensures .from, c .before .before .before .loop-test .taken)
 
 loop-again : tie.Need-loop-again Inv-loop μ-loop
-loop-again c = search needs
+loop-again c = c .first-of2 .ensures .upto
 
-returns-2 : tie.Need-returns-2 Inv-loop μ-loop
-returns-2 c = λ s h n o l. absurd (omega arith)
+returns-3 : tie.Need-returns-3 Inv-loop μ-loop
+returns-3 c = λ t s E n l. absurd (omega arith)
 
 pub first-dead-spec : {M : Type 1} → statement M
 first-dead-spec =
@@ -78,17 +86,20 @@ first-dead-spec =
     (tie.spec
     Inv-loop
     μ-loop
+    queued-reads-requires
+    returns
     ignored-requires
+    first-of-requires
     loop-holds
-    mul-a
-    array-copy-out-a
-    read-in-requires
+    has-requires
+    entry-at-requires
     sources-requires
     lowest-requires
     mul-result
     add-result
-    returns
-    add-k
+    returns-2
+    add-first-of
+    first-of-requires-2
     loop-less
     loop-again
-    returns-2)
+    returns-3)

@@ -1,72 +1,82 @@
-use mathlib.Core.Logic.{⊎-elim}
 use borrow.Author.Needs.{needs}
-use Rattle.choices.proofs.Answers.{NoSure, no-sure, sure-test, sure-refused, sure-other, sure-here, sure-nowhere}
-use Rattle.machine.proofs.Entries.{action-at}
-use Rattle.machine.specs.Shown.{holderOf, Acts, ordersOf}
-use Rattle.rules.specs.State.{State, kindOf}
-use lib.ListN.{getD}
+use Rattle.choices.proofs.Queued.{of-kind}
+use Rattle.choices.proofs.Answers.{NoSure, no-sure, sure-refused, sure-over, sure-here, sure-nowhere}
+use Rattle.sure.specs.Sure.{sureKind}
+use Rattle.cases.specs.declared.Case.{Case}
+use Rattle.choices.specs.Given.{ArraysIn}
+use Rattle.rules.specs.State.{State}
+use Rattle.words.specs.Sets.{has}
 use native.Mathlib.Omega.{arith}
-use Prim.Native.Nat.{_≤_, _-_}
-use mathlib.Core.Path.{_≡_, _∙_, sym, ap, subst}
+use Prim.Native.Nat.{_+_, _≤_, _<_, _-_}
+use mathlib.Core.Bool.{true}
+use mathlib.Core.Path.{_≡_, _∙_, sym, subst}
 use Rattle.choices.proofs.sure_commit.Statement.{statement}
 use Rattle.choices.proofs.sure_commit.Tie as tie
 
 abbrev Inv-loop : tie.InvT-loop
-Inv-loop c rows holders issued acts k₀ k = (k ≤ issued) × ((s : State) → Acts c issued acts s → s .orders ≡ ordersOf c (s .actions) rows → s .holders ≡ (λ l. holderOf (getD holders l 0)) → NoSure c s k)
+Inv-loop masks presets acts rows sets holders procs locs issued sure k₀ k = (k ≤ issued) × (k < issued → has sure k ≡ true) × ((c : Case) (s : State) → ArraysIn c s masks presets procs locs issued acts rows sets holders → NoSure c s k)
 
 abbrev μ-loop : tie.MeasureT-loop
-μ-loop c rows holders issued acts k₀ k = issued - k
+μ-loop masks presets acts rows sets holders procs locs issued sure k₀ k = issued - k
+
+queued-sure-requires : tie.Need-queued-sure-requires Inv-loop μ-loop
+queued-sure-requires c κs = search needs
+
+first-of-requires : tie.Need-first-of-requires Inv-loop μ-loop
+first-of-requires c κs = search needs
 
 loop-holds : tie.Need-loop-holds Inv-loop μ-loop
-loop-holds c = (search needs, λ s h o g. no-sure (c .args .c) s)
-
-mul-e : tie.Need-mul-e Inv-loop μ-loop
-mul-e c = search needs
-
-array-copy-out-e : tie.Need-array-copy-out-e Inv-loop μ-loop
-array-copy-out-e c = search needs
-
-kind-of-requires : tie.Need-kind-of-requires Inv-loop μ-loop
-kind-of-requires c κs = search needs
+loop-holds c =
+    let f = c .first-of in
+    let q = c .before .queued-sure in
+    let b = c .before .before in
+    let a = b .args in (
+      f .ensures .upto,
+      f .ensures .found,
+      λ t s E. sure-over t s (omega (arith, b .pre .few, E .present)) (q .result) 0 (a .issued) (f .result) (q .ensures t s (E .arrays .kept)) (f .ensures) (no-sure t s),
+    )
 
 may-commit-requires : tie.Need-may-commit-requires Inv-loop μ-loop
 may-commit-requires c κs = search needs
 
 returns : tie.Need-returns Inv-loop μ-loop
 returns c =
-    let at = c .before .before .before .before .before .before in
-    let b = at .before in
+    let at = c .before .before .before in
+    let q = at .before .before .queued-sure in
+    let b = at .before .before .before in
     let a = b .args in
     let k = at .loop .k in
-    let q = c .before .before .before .kind-of in
-    λ s h o g. sure-here (a .c) s k _ (c .before .may-commit .result) (omega (arith, b .pre .issued)) (sure-test (q .result) _ (q .ensures .0 ∙ sym (ap kindOf (action-at (a .c) (a .issued) (a .t4) s h k (omega arith))))) (c .before .before .if1 .taken) (c .before .may-commit .ensures s h o g) (c .if2 .taken)
+    let l : k < a .issued = omega (arith, c .before .before .loop-test .taken) in
+    λ t s E. sure-here t s k (c .before .may-commit .result) (omega (arith, l, b .pre .issued)) (of-kind t s (omega (arith, b .pre .few, E .present)) sureKind (q .result) (q .ensures t s (E .arrays .kept)) k (omega (arith, l, E .shows .count)) (at .loop .inv .1 l)) (c .before .may-commit .ensures t s E) (c .if1 .taken)
 
-add-k : tie.Need-add-k Inv-loop μ-loop
-add-k c = search needs
+add-first-of : tie.Need-add-first-of Inv-loop μ-loop
+add-first-of c = search needs
+
+first-of-requires-2 : tie.Need-first-of-requires-2 Inv-loop μ-loop
+first-of-requires-2 c κs = search needs
 
 loop-less : tie.Need-loop-less Inv-loop μ-loop
-loop-less c = search needs
+loop-less c = omega (arith, c .first-of2 .ensures .from, c .before .before .before .loop-test .taken)
 
 loop-again : tie.Need-loop-again Inv-loop μ-loop
 loop-again c =
+    let f = c .first-of2 in
     let at = c .before .before .before .before in
-    let a = at .before .args in
+    let q = at .before .before .queued-sure in
+    let b = at .before .before .before in
+    let a = b .args in
     let k = at .loop .k in
-    let q = c .before .kind-of in (
-      search needs,
-      λ s h o g.
-          ⊎-elim
-          (λ w. sure-refused (a .c) s k (at .loop .inv .1 s h o g) (w .1 .result) (w .1 .ensures s h o g) (w .2 .left))
-          (λ w. sure-other (a .c) s k (at .loop .inv .1 s h o g) _ (sure-test (q .result) _ (q .ensures .0 ∙ sym (ap kindOf (action-at (a .c) (a .issued) (a .t4) s h k (omega arith))))) (w .left))
-          (c .if1 .came),
+    let m = c .before .before .may-commit in (
+      f .ensures .upto,
+      f .ensures .found,
+      λ t s E. sure-over t s (omega (arith, b .pre .few, E .present)) (q .result) (k + 1) (a .issued) (f .result) (q .ensures t s (E .arrays .kept)) (f .ensures) (sure-refused t s k (at .loop .inv .2 t s E) (m .result) (m .ensures t s E) (c .before .if1 .left)),
     )
 
 returns-2 : tie.Need-returns-2 Inv-loop μ-loop
 returns-2 c =
-    let b = c .before .before in
-    let a = b .args in
-    let q : c .before .loop .k ≡ a .issued = omega arith in
-    λ s h o g. sure-nowhere (a .c) s (subst (NoSure (a .c) s) (q ∙ sym (h .count)) (c .before .loop .inv .1 s h o g))
+    let a = c .before .before .before .before .args in
+    let q : c .before .loop .k ≡ a .issued = omega (arith, c .before .loop .inv .0, c .loop-test .left) in
+    λ t s E. sure-nowhere t s (subst (NoSure t s) (q ∙ sym (E .shows .count)) (c .before .loop .inv .2 t s E))
 
 pub sure-commit-spec : {M : Type 1} → statement M
 sure-commit-spec =
@@ -74,13 +84,13 @@ sure-commit-spec =
     (tie.spec
     Inv-loop
     μ-loop
+    queued-sure-requires
+    first-of-requires
     loop-holds
-    mul-e
-    array-copy-out-e
-    kind-of-requires
     may-commit-requires
     returns
-    add-k
+    add-first-of
+    first-of-requires-2
     loop-less
     loop-again
     returns-2)

@@ -1,11 +1,10 @@
-use Rattle.machine.proofs.Entries.{action-at as action-is}
-use Rattle.rules.specs.State.{Action}
+use Rattle.choices.proofs.Opens.{proc-at}
 use Rattle.choices.proofs.Answers.{issue-at, commit-at, issue-after, commit-after, there-at}
 use Rattle.machine.specs.Shown.{shown}
 use Rattle.rules.specs.Step.{stepCode}
 use native.Mathlib.Omega.{arith}
-use Prim.Native.Nat.{_<_, _-_}
-use mathlib.Core.Path.{refl, _∙_, sym, ap}
+use Prim.Native.Nat.{_-_}
+use mathlib.Core.Path.{refl, _∙_, ap}
 use borrow.Author.Needs.{needs}
 use Rattle.choices.proofs.take.Statement.{statement}
 use Rattle.choices.proofs.take.Tie as tie
@@ -19,20 +18,13 @@ returns c = let a = c .before .before .args in record { shows = c .issue .ensure
 action-at-requires : tie.Need-action-at-requires
 action-at-requires c κs = search needs
 
-mul-e : tie.Need-mul-e
-mul-e c =
-    let b = c .before .before in
+entry-at-requires : tie.Need-entry-at-requires
+entry-at-requires c κs =
+    let u = c .before .before in
+    let b = u .before .before in
     let a = b .args in
-    let l = there-at (a .c) (shown (a .c) (a .t2)) (a .j) (c .action-at .result) (c .before .if1 .left) (c .action-at .ensures) (b .pre .fits) in
-    let k : c .action-at .result < 48 = omega (arith, b .pre .valid .issued) in
-    search needs
-
-element-copy-out-e : tie.Need-element-copy-out-e
-element-copy-out-e c =
-    let b = c .before .before in
-    let a = b .args in
-    let l = there-at (a .c) (shown (a .c) (a .t2)) (a .j) (c .action-at .result) (c .before .if1 .left) (c .action-at .ensures) (b .pre .fits) in
-    omega (arith, b .pre .valid .issued, b .pre .valid .acts-long)
+    let l = there-at (a .c) (shown (a .c) (a .t2)) (a .j) (u .action-at .result) (u .before .if1 .left) (u .action-at .ensures) (b .pre .fits) in
+    omega (arith, l, b .pre .valid .issued)
 
 wide-requires : tie.Need-wide-requires
 wide-requires c κs = search needs
@@ -42,23 +34,27 @@ source-at-requires c κs = search needs
 
 commit-requires : tie.Need-commit-requires
 commit-requires c κs =
-    let b = c .before .before .before .before .before in
+    let e = c .before .before .entry-at in
+    let v = c .before .before .before .before .before in
+    let u = v .action-at in
+    let h = v .before .if1 .left in
+    let b = v .before .before in
     let a = b .args in
     let s = shown (a .c) (a .t2) in
-    let u = c .before .before .before .action-at in
-    let h = c .before .before .before .before .if1 .left in
     let l = there-at (a .c) s (a .j) (u .result) h (u .ensures) (b .pre .fits) in
-    record { valid = b .pre .valid; fits = ap (stepCode (a .c) s) (commit-at (a .c) s (a .j) (c .before .wide .result) (u .result) (c .source-at .result) h (u .ensures) (c .source-at .ensures) (c .before .wide .ensures .0 ∙ sym (ap (λ (x : Action). x .proc) (action-is (a .c) (a .t2 .issued) (a .t2 .acts) s (record { count = refl; actions = refl }) (u .result) l)))) ∙ b .pre .fits }
+    record { valid = b .pre .valid; fits = ap (stepCode (a .c) s) (commit-at (a .c) s (a .j) (c .before .wide .result) (u .result) (c .source-at .result) h (u .ensures) (c .source-at .ensures) (c .before .wide .ensures .0 ∙ proc-at (a .c) (a .t2 .issued) (a .t2 .acts) s (record { count = refl; actions = refl }) (u .result) l (e .result) (e .ensures))) ∙ b .pre .fits }
 
 returns-2 : tie.Need-returns-2
 returns-2 c =
-    let b = c .before .before .before .before .before .before in
+    let e = c .before .before .before .entry-at in
+    let v = c .before .before .before .before .before .before in
+    let u = v .action-at in
+    let h = v .before .if1 .left in
+    let b = v .before .before in
     let a = b .args in
     let s = shown (a .c) (a .t2) in
-    let u = c .before .before .before .before .action-at in
-    let h = c .before .before .before .before .before .if1 .left in
     let l = there-at (a .c) s (a .j) (u .result) h (u .ensures) (b .pre .fits) in
-    let q = commit-at (a .c) s (a .j) (c .before .before .wide .result) (u .result) (c .before .source-at .result) h (u .ensures) (c .before .source-at .ensures) (c .before .before .wide .ensures .0 ∙ sym (ap (λ (x : Action). x .proc) (action-is (a .c) (a .t2 .issued) (a .t2 .acts) s (record { count = refl; actions = refl }) (u .result) l))) in
+    let q = commit-at (a .c) s (a .j) (c .before .before .wide .result) (u .result) (c .before .source-at .result) h (u .ensures) (c .before .source-at .ensures) (c .before .before .wide .ensures .0 ∙ proc-at (a .c) (a .t2 .issued) (a .t2 .acts) s (record { count = refl; actions = refl }) (u .result) l (e .result) (e .ensures)) in
     record { shows = c .commit .ensures .shows ∙ commit-after (a .c) s (a .j) (c .before .before .wide .result) (u .result) (c .before .source-at .result) q; valid = c .commit .ensures .valid }
 
 pub take-spec : {M : Type 1} → statement M
@@ -68,8 +64,7 @@ take-spec =
     issue-requires
     returns
     action-at-requires
-    mul-e
-    element-copy-out-e
+    entry-at-requires
     wide-requires
     source-at-requires
     commit-requires

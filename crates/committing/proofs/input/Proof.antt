@@ -11,7 +11,7 @@ or-zero-requires : tie.Need-or-zero-requires
 or-zero-requires c κs = search needs
 
 returns : tie.Need-returns
-returns c = λ s h. c .or-zero .ensures ∙ ap orZero (c .before .named .ensures s h)
+returns c = λ k s q h. c .or-zero .ensures ∙ ap orZero (c .before .named .ensures k s q h)
 
 pub input-spec : {M : Type 1} → statement M
 input-spec = tie.close (tie.spec named-requires or-zero-requires returns)

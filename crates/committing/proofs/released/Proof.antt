@@ -7,7 +7,7 @@ use Rattle.words.specs.Small.{is}
 use Rattle.rules.specs.Kinds.{releasing}
 use Rattle.rules.specs.State.{State, Action, kindOf}
 use Rattle.orders.specs.Rows.{SetOf}
-use Rattle.machine.specs.Shown.{Acts}
+use Rattle.machine.specs.Shown.{shownEntry, Acts}
 use Rattle.machine.proofs.Entries.{action-at}
 use Rattle.machine.proofs.Items.{item-is, no-item}
 use Rattle.committing.specs.Committed.{releases}
@@ -16,19 +16,16 @@ use Rattle.committing.proofs.released.Statement.{statement}
 use Rattle.committing.proofs.released.Tie as tie
 
 abbrev Inv-loop : tie.InvT-loop
-Inv-loop issued x acts items₀ k₀ items k = (k ≤ issued) × ((c : Case) (s : State) → Acts c issued acts s → SetOf (8 + k) (releases s x) items)
+Inv-loop acts issued x items₀ k₀ items k = (k ≤ issued) × ((c : Case) (s : State) → Acts c issued acts s → SetOf (8 + k) (releases s x) items)
 
 abbrev μ-loop : tie.MeasureT-loop
-μ-loop issued x acts items₀ k₀ items k = issued - k
+μ-loop acts issued x items₀ k₀ items k = issued - k
 
 loop-holds : tie.Need-loop-holds Inv-loop μ-loop
 loop-holds c = let a = c .args in (search needs, λ k s h. no-item (λ y. releasing (kindOf y) && is (a .x) (y .result)) s)
 
-mul-e : tie.Need-mul-e Inv-loop μ-loop
-mul-e c = search needs
-
-array-copy-out-e : tie.Need-array-copy-out-e Inv-loop μ-loop
-array-copy-out-e c = search needs
+entry-at-requires : tie.Need-entry-at-requires Inv-loop μ-loop
+entry-at-requires c κs = search needs
 
 frees-requires : tie.Need-frees-requires Inv-loop μ-loop
 frees-requires c κs = search needs
@@ -54,7 +51,7 @@ loop-again c =
       search needs,
       λ k s h. subst (λ (z : ℕ). SetOf z (releases s (a .x)) (c .with .result)) q
           (c .with .ensures (releases s (a .x)) (at .loop .inv .1 k s h)
-          (c .before .frees .ensures k ∙ ap (λ (y : Action). releasing (kindOf y) && is (a .x) (y .result)) (sym (action-at k (a .issued) (a .t1) s h n (omega arith))) ∙ sym (item-is (λ y. releasing (kindOf y) && is (a .x) (y .result)) s false n))),
+          (c .before .frees .ensures k ∙ ap (λ (y : Action). releasing (kindOf y) && is (a .x) (y .result)) (ap (shownEntry k) (c .before .before .entry-at .ensures) ∙ sym (action-at k (a .issued) (a .acts .now) s h n (omega arith))) ∙ sym (item-is (λ y. releasing (kindOf y) && is (a .x) (y .result)) s false n))),
     )
 
 returns : tie.Need-returns Inv-loop μ-loop
@@ -70,8 +67,7 @@ released-spec =
     Inv-loop
     μ-loop
     loop-holds
-    mul-e
-    array-copy-out-e
+    entry-at-requires
     frees-requires
     add-with
     with-requires

@@ -1,13 +1,13 @@
 use mathlib.Core.Path.{_≡_, _∙_, sym, ap, subst}
 use Prim.Native.Nat.{ℕ, _+_, _≤_, _-_}
-use mathlib.Core.Bool.{_&&_}
+use mathlib.Core.Bool.{Bool, _&&_}
 use lib.Dec.{eqb}
 use native.Mathlib.Omega.{arith}
 use Rattle.cases.specs.declared.Case.{Case}
 use Rattle.rules.specs.State.{State, Action, standsAt}
 use Rattle.oneorder.specs.OneOrder.{hasItem}
 use Rattle.orders.specs.Rows.{SetOf}
-use Rattle.machine.specs.Shown.{Acts}
+use Rattle.machine.specs.Shown.{Acts, shownEntry}
 use Rattle.machine.proofs.Entries.{action-at}
 use Rattle.machine.proofs.Items.{item-is}
 use Rattle.issuing.specs.Issued.{after}
@@ -17,19 +17,16 @@ use Rattle.issuing.proofs.earlier.Statement.{statement}
 use Rattle.issuing.proofs.earlier.Tie as tie
 
 abbrev Inv-loop : tie.InvT-loop
-Inv-loop issued p writes acts items₀ k₀ items k = (k ≤ issued) × ((c : Case) (s : State) (new : Action) → Acts c issued acts s → SetOf 8 (λ l. standsAt l new) writes → SetOf (8 + k) (after p new s) items)
+Inv-loop acts issued p writes items₀ k₀ items k = (k ≤ issued) × ((c : Case) (s : State) (new : Action) → Acts c issued acts s → SetOf 8 (λ l. standsAt l new) writes → SetOf (8 + k) (after p new s) items)
 
 abbrev μ-loop : tie.MeasureT-loop
-μ-loop issued p writes acts items₀ k₀ items k = issued - k
+μ-loop acts issued p writes items₀ k₀ items k = issued - k
 
 loop-holds : tie.Need-loop-holds Inv-loop μ-loop
 loop-holds c = (search needs, λ k s new h w. initial-items (c .args .p) new s (c .args .writes) w)
 
-mul-e : tie.Need-mul-e Inv-loop μ-loop
-mul-e c = search needs
-
-array-copy-out-e : tie.Need-array-copy-out-e Inv-loop μ-loop
-array-copy-out-e c = search needs
+entry-at-requires : tie.Need-entry-at-requires Inv-loop μ-loop
+entry-at-requires c κs = search needs
 
 own-requires : tie.Need-own-requires Inv-loop μ-loop
 own-requires c κs = search needs
@@ -49,13 +46,14 @@ loop-less c = search needs
 loop-again : tie.Need-loop-again Inv-loop μ-loop
 loop-again c =
     let at = c .before .before .before .before in
-    let a = c .before .before .before .before .before .args in
+    let a = at .before .args in
     let n = at .loop .k in
+    let f : Action → Bool = λ x. eqb (x .proc) (a .p) && hasItem x in
     let q : 8 + n + 1 ≡ 8 + (n + 1) = omega arith in (
       search needs,
       λ k s new h w. subst (λ (x : ℕ). SetOf x (after (a .p) new s) (c .with .result)) q
           (c .with .ensures (after (a .p) new s) (at .loop .inv .1 k s new h w)
-          (c .before .own .ensures k ∙ ap (λ (x : Action). eqb (x .proc) (a .p) && hasItem x) (sym (action-at k (a .issued) (a .t1) s h n (omega arith))) ∙ sym (item-is (λ x. eqb (x .proc) (a .p) && hasItem x) s (standsAt (8 + n) new) n))),
+          (c .before .own .ensures k ∙ ap f (ap (shownEntry k) (c .before .before .entry-at .ensures) ∙ sym (action-at k (a .issued) (a .acts .now) s h n (c .before .before .before .loop-test .taken))) ∙ sym (item-is f s (standsAt (8 + n) new) n))),
     )
 
 returns : tie.Need-returns Inv-loop μ-loop
@@ -71,8 +69,7 @@ earlier-spec =
     Inv-loop
     μ-loop
     loop-holds
-    mul-e
-    array-copy-out-e
+    entry-at-requires
     own-requires
     add-with
     with-requires

@@ -1,4 +1,4 @@
-use mathlib.Core.Path.{_≡_, _∙_, ap}
+use mathlib.Core.Path.{_≡_, refl, _∙_, ap}
 use Prim.Native.Nat.{ℕ, _+_, _*_}
 use native.Mathlib.Omega.{arith}
 use lib.ListN.{getD}
@@ -65,18 +65,19 @@ address-code-requires c κs = search needs
 
 returns-4 : tie.Need-returns-4
 returns-4 c =
-    let b = c .before .before .before .before .before .before .before .before .before .before .before .before in
+    let at-name = c .before .before .before .before .before in
+    let b = at-name .before .before .before .before .before .before .before .before .before .before in
     let a = b .args in
     let at = getD (a .places .now) (a .p) 0 in
-    let w : c .before .before .before .before .before .before .wide .result ≡ at = c .before .before .before .before .before .before .wide .ensures .0 in
+    let w : at-name .before .before .before .before .wide .result ≡ at = at-name .before .before .before .before .wide .ensures .0 in
     let i = instrAt (a .t1) (a .p) at in
-    let r : c .before .before .before .wide2 .result ≡ getD (readsOf i) 0 0 = c .before .before .before .wide2 .ensures .0 ∙ c .before .before .before .before .first-read .ensures ∙ ap (λ (n : ℕ). getD (readsOf (instrAt (a .t1) (a .p) n)) 0 0) w in
-    let nm : c .before .before .name-at .result ≡ getD (a .names .now) (8 * a .p + getD (readsOf i) 0 0) 0 = c .before .before .name-at .ensures ∙ ap (λ (n : ℕ). getD (a .names .now) (8 * a .p + n) 0) r in
+    let r : at-name .before .wide2 .result ≡ getD (readsOf i) 0 0 = at-name .before .wide2 .ensures .0 ∙ at-name .before .before .first-read .ensures ∙ ap (λ (n : ℕ). getD (readsOf (instrAt (a .t1) (a .p) n)) 0 0) w in
+    let nm : at-name .name-at .result ≡ getD (a .names .now) (8 * a .p + getD (readsOf i) 0 0) 0 = at-name .name-at .ensures ∙ ap (λ (n : ℕ). getD (a .names .now) (8 * a .p + n) 0) r in
     λ s h q n.
     c .address-code .ensures
     ∙ ap (λ (x : ℕ). firstOf (addressRefusals (a .t1) (accesses (kind (instrAt (a .t1) (a .p) x))) (shownValue (c .before .named .result)))) w
-    ∙ code-rest (a .t1) s (a .p) at q (c .before .before .before .before .before .before .before .before .before .before .if1 .left) (a .names .now) (shownValue (c .before .named .result)) (b .pre .proc) n (b .pre .fit .fine (a .p) at (b .pre .proc) (c .before .before .before .before .before .before .before .before .if2 .left)) (c .before .before .before .before .before .before .before .before .if2 .left) (omega (arith, h .count, c .before .before .before .before .before .before .before .if3 .left))
-    (c .before .named .ensures s h ∙ ap (λ (x : ℕ). valueOf s (nameOf (a .t1) x)) nm)
+    ∙ code-rest (a .t1) s (a .p) at q (at-name .before .before .before .before .before .before .before .before .if1 .left) (a .names .now) (shownValue (c .before .named .result)) (b .pre .proc) n (b .pre .fit .fine (a .p) at (b .pre .proc) (at-name .before .before .before .before .before .before .if2 .left)) (at-name .before .before .before .before .before .before .if2 .left) (omega (arith, h .count, at-name .before .before .before .before .before .if3 .left))
+    (c .before .named .ensures (a .t1) s (record { masks = refl; presets = refl }) h ∙ ap (λ (x : ℕ). valueOf s (nameOf (a .t1) x)) nm)
 
 pub issue-code-spec : {M : Type 1} → statement M
 issue-code-spec =

@@ -23,12 +23,12 @@ cast-result c = search needs
 returns : tie.Need-returns
 returns c =
     let q : accesses (kind (c .before .before .before .before .args .i)) ≡ true = ap (λ (n : ℕ). eqb n 1 || eqb n 2) (sym (c .before .before .before .kind-of .ensures .0)) ∙ c .before .before .if1 .taken in
-    λ s h. rw q (ap (λ (n : ℕ). n % 256) (c .or-zero .ensures ∙ ap orZero (c .before .named .ensures s h)))
+    λ k s d h. rw q (ap (λ (n : ℕ). n % 256) (c .or-zero .ensures ∙ ap orZero (c .before .named .ensures k s d h)))
 
 returns-2 : tie.Need-returns-2
 returns-2 c =
     let q : accesses (kind (c .before .before .args .i)) ≡ false = ap (λ (n : ℕ). eqb n 1 || eqb n 2) (sym (c .before .kind-of .ensures .0)) ∙ c .if1 .left in
-    λ s h. rw q
+    λ k s d h. rw q
 
 pub location-spec : {M : Type 1} → statement M
 location-spec =

@@ -3,7 +3,7 @@ use Prim.Native.Nat.{ℕ, _+_, _*_}
 use native.Mathlib.Omega.{arith}
 use lib.ListN.{getD}
 use Rattle.rules.specs.Kinds.{reads as readsOf}
-use Rattle.issuing.proofs.Binding.{entry-fresh}
+use Rattle.issuing.proofs.Binding.{entry-fresh, name-low}
 use borrow.Author.Needs.{needs}
 use Rattle.issuing.proofs.new_entry.Statement.{statement}
 use Rattle.issuing.proofs.new_entry.Tie as tie
@@ -41,8 +41,8 @@ name-at-requires-2 c κs = search needs
 location-requires : tie.Need-location-requires
 location-requires c κs = search needs
 
-cast-t13 : tie.Need-cast-t13
-cast-t13 c = search needs
+cast-t14 : tie.Need-cast-t14
+cast-t14 c = search needs
 
 returns : tie.Need-returns
 returns c =
@@ -51,10 +51,17 @@ returns c =
     let low = b .pre .proc in
     let u : c .before .before .before .before .before .wide .result ≡ getD (readsOf (a .i)) 0 0 = c .before .before .before .before .before .wide .ensures .0 ∙ c .before .before .before .before .before .before .first-read .ensures in
     let w : c .before .before .before .wide2 .result ≡ getD (readsOf (a .i)) 1 0 = c .before .before .before .wide2 .ensures .0 ∙ c .before .before .before .before .second-read .ensures in
-    λ s h n. entry-fresh (a .c) s (a .p) (a .names .now) low n (a .i) (a .place) _ _ _ _ (b .pre .fine) (omega (arith, low))
-    (c .before .before .name-at .ensures ∙ ap (λ (n : ℕ). getD (a .names .now) (8 * a .p + n) 0) u)
-    (c .before .name-at2 .ensures ∙ ap (λ (n : ℕ). getD (a .names .now) (8 * a .p + n) 0) w)
-    (c .location .ensures s h)
+    let x = c .before .before .name-at .ensures in
+    let y = c .before .name-at2 .ensures in
+    record {
+      first = λ h. omega (arith, x, name-low (a .names .now) (8 * a .p + c .before .before .before .before .before .wide .result) (b .pre .names-long) h);
+      second = λ h. omega (arith, y, name-low (a .names .now) (8 * a .p + c .before .before .before .wide2 .result) (b .pre .names-long) h);
+      shows = λ k s d h n.
+          entry-fresh k s (a .p) (a .names .now) low n (a .i) (a .place) _ _ _ _ (b .pre .fine) (omega (arith, low))
+          (x ∙ ap (λ (n : ℕ). getD (a .names .now) (8 * a .p + n) 0) u)
+          (y ∙ ap (λ (n : ℕ). getD (a .names .now) (8 * a .p + n) 0) w)
+          (c .location .ensures k s d h);
+    }
 
 pub new-entry-spec : {M : Type 1} → statement M
 new-entry-spec =
@@ -71,5 +78,5 @@ new-entry-spec =
     add-name-at-2
     name-at-requires-2
     location-requires
-    cast-t13
+    cast-t14
     returns)

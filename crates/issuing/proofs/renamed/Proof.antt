@@ -2,7 +2,7 @@ use mathlib.Core.Path.{_≡_, _∙_}
 use native.Mathlib.Omega.{arith}
 use lib.ListN.{length-set}
 use Rattle.issuing.specs.Issued.{assignedBy}
-use Rattle.issuing.proofs.Entering.{names-some, names-none}
+use Rattle.issuing.proofs.Entering.{names-some, names-none, names-stored}
 use borrow.Author.Needs.{needs}
 use Rattle.issuing.proofs.renamed.Statement.{statement}
 use Rattle.issuing.proofs.renamed.Tie as tie
@@ -35,6 +35,7 @@ returns c =
     let d : c .before .wide .result ≡ assignedBy (a .i) = c .before .wide .ensures .0 ∙ c .before .before .assigned .ensures in
     record {
       long = length-set (a .names) _ _ ∙ b .pre .names-long;
+      low = names-stored (a .names) (a .p) (a .k) _ _ (b .pre .names-low) (b .pre .names-long) (b .pre .proc) (b .pre .action) (c .if1 .taken) (omega (arith, b .pre .action));
       shows = λ k. names-some k (a .names) (a .p) (a .k) _ _ (a .i) (b .pre .names-long) (b .pre .proc) (b .pre .fine) d (c .if1 .taken) (omega (arith, b .pre .action));
     }
 
@@ -43,7 +44,7 @@ returns-2 c =
     let b = c .before .before .before in
     let a = b .args in
     let d : c .before .wide .result ≡ assignedBy (a .i) = c .before .wide .ensures .0 ∙ c .before .before .assigned .ensures in
-    record { long = b .pre .names-long; shows = λ k. names-none k (a .names) (a .p) (a .k) _ (a .i) (b .pre .fine) d (c .if1 .left) }
+    record { long = b .pre .names-long; low = b .pre .names-low; shows = λ k. names-none k (a .names) (a .p) (a .k) _ (a .i) (b .pre .fine) d (c .if1 .left) }
 
 pub renamed-spec : {M : Type 1} → statement M
 renamed-spec =

@@ -20,7 +20,7 @@ add-result-2 c = search needs
 returns : tie.Need-returns
 returns c =
     let a = c .before .args in
-    λ k s h. λ j. leb (96 + c .queue .ensures .1 k s h j) (a .n + 2 * sym (h .count) j)
+    λ k s h q. λ j. leb (96 + c .queue .ensures .1 k s h q j) (a .n + 2 * sym q j)
 
 pub drains-spec : {M : Type 1} → statement M
 drains-spec = tie.close (tie.spec queue-requires add-result mul-result add-result-2 returns)

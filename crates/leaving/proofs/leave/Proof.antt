@@ -8,25 +8,48 @@ use borrow.Author.Needs.{needs}
 use Rattle.leaving.proofs.leave.Statement.{statement}
 use Rattle.leaving.proofs.leave.Tie as tie
 
+element-copy-out-minus : tie.Need-element-copy-out-minus
+element-copy-out-minus c = search needs
+
+element-copy-out-minus-2 : tie.Need-element-copy-out-minus-2
+element-copy-out-minus-2 c = search needs
+
+minus-requires : tie.Need-minus-requires
+minus-requires c κs = search needs
+
+returns : tie.Need-returns
+returns c = λ t. absurd (false≢true t)
+
 drains-requires : tie.Need-drains-requires
 drains-requires c κs = search needs
 
 some-futile-requires : tie.Need-some-futile-requires
 some-futile-requires c κs = search needs
 
-returns : tie.Need-returns
-unfolding leaves
-returns c =
-    let at-then = c .before .before .before in
-    let at-drains = at-then .before in
-    let a = at-drains .before .before .args in
-    let s = shown (a .c) (a .t2) in
-    λ t. and-make (someBelow (s .count) (futile s)) (a .marked || drains (a .n) s)
-    (c .some-futile .ensures s (record { count = refl; actions = refl }) refl t)
-    (ap (λ (b : Bool). a .marked || b) (sym (at-drains .drains .ensures (a .c) s (record { count = refl; actions = refl }))) ∙ at-then .if1 .taken)
-
 returns-2 : tie.Need-returns-2
-returns-2 c = λ t. absurd (false≢true t)
+unfolding leaves
+returns-2 c =
+    let at-then = c .before .before .before .before .before .before .before .before in
+    let at-drains = at-then .before in
+    let start = at-drains .before .before .before .before .before .before .before in
+    let a = start .args in
+    let s = shown (a .t1) (a .t2) in
+    λ t. and-make (someBelow (s .count) (futile s)) (a .marked || drains (a .n) s)
+    (c .some-futile .ensures (a .t1) s (record { masks = refl; presets = refl }) (record { count = refl; actions = refl }) (start .pre .0 .kept) refl t)
+    (ap (λ (b : Bool). a .marked || b) (sym (at-drains .drains .ensures (a .t1) s (start .pre .0 .kept) refl)) ∙ at-then .if2 .taken)
+
+returns-3 : tie.Need-returns-3
+returns-3 c = λ t. absurd (false≢true t)
 
 pub leave-spec : {M : Type 1} → statement M
-leave-spec = tie.close (tie.spec drains-requires some-futile-requires returns returns-2)
+leave-spec =
+    tie.close
+    (tie.spec
+    element-copy-out-minus
+    element-copy-out-minus-2
+    minus-requires
+    returns
+    drains-requires
+    some-futile-requires
+    returns-2
+    returns-3)

@@ -33,7 +33,7 @@ no-clauses-requires c κs = search needs
 -- src/lib.rt:41:9
 explore-requires : tie.Need-explore-requires
 explore-requires c κs =
-    let at-none = c .before in
+    let at-none = c .before .before in
     let at-forward = at-none .before in
     let at-start = at-forward .before in
     let at-clear = at-start .before .before .before in
@@ -54,7 +54,7 @@ returns c =
     let at-refuse = c .before .before in
     let at-if = at-refuse .before .before in
     let at-explore = at-if .before .before .before in
-    let at-none = at-explore .before .before in
+    let at-none = at-explore .before .before .before in
     let at-start = at-none .before .before in
     let at-clear = at-start .before .before .before in
     let start = at-clear .before .before .before in
@@ -72,7 +72,7 @@ same-length-2 c = search needs
 returns-2 : tie.Need-returns-2
 returns-2 c =
     let at-explore = c .before .before .before in
-    let at-none = at-explore .before .before in
+    let at-none = at-explore .before .before .before in
     let at-start = at-none .before .before in
     let at-clear = at-start .before .before .before in
     let start = at-clear .before .before .before in

@@ -14,13 +14,13 @@ preset-of-requires : tie.Need-preset-of-requires
 preset-of-requires c κs = search needs
 
 returns : tie.Need-returns
-returns c = let a = c .before .before .before .args in λ s h. subst (λ (n : ℕ). shownValue (c .preset-of .result) ≡ valueOf s (nameOf (a .c) n)) (c .before .before .wide .ensures .0) (c .preset-of .ensures ∙ sym (name-start (a .c) s (c .before .before .wide .result) (c .before .if1 .taken)))
+returns c = λ k s q h. subst (λ (n : ℕ). shownValue (c .preset-of .result) ≡ valueOf s (nameOf k n)) (c .before .before .wide .ensures .0) (c .preset-of .ensures k q ∙ sym (name-start k s (c .before .before .wide .result) (c .before .if1 .taken)))
 
 value-at-requires : tie.Need-value-at-requires
 value-at-requires c κs = search needs
 
 returns-2 : tie.Need-returns-2
-returns-2 c = let a = c .before .before .before .args in λ s h. subst (λ (n : ℕ). shownValue (c .value-at .result) ≡ valueOf s (nameOf (a .c) n)) (c .before .before .wide .ensures .0) (c .value-at .ensures (a .c) s h ∙ sym (name-given (a .c) s (c .before .before .wide .result) (c .before .if1 .left)))
+returns-2 c = λ k s q h. subst (λ (n : ℕ). shownValue (c .value-at .result) ≡ valueOf s (nameOf k n)) (c .before .before .wide .ensures .0) (c .value-at .ensures k s h ∙ sym (name-given k s (c .before .before .wide .result) (c .before .if1 .left)))
 
 pub named-spec : {M : Type 1} → statement M
 named-spec =

@@ -11,7 +11,7 @@ wide-requires : tie.Need-wide-requires
 wide-requires c κs = search needs
 
 returns : tie.Need-returns
-returns c = let a = c .before .before .args in λ s h q. register-absent (a .c) s (a .n / 8) (a .n % 8) (omega (arith, c .before .wide .ensures .0))
+returns c = let a = c .before .before .args in λ k s procs q h name. register-absent k s (a .n / 8) (a .n % 8) (omega (arith, procs, c .before .wide .ensures .0))
 
 element-copy-out-named : tie.Need-element-copy-out-named
 element-copy-out-named c = search needs
@@ -20,7 +20,7 @@ named-requires : tie.Need-named-requires
 named-requires c κs = search needs
 
 returns-2 : tie.Need-returns-2
-returns-2 c = let a = c .before .before .before .before .args in λ s h q. c .named .ensures s h ∙ ap (valueOf s) (sym q) ∙ register-present (a .c) s (a .n / 8) (a .n % 8) (omega (arith, c .before .before .before .wide .ensures .0))
+returns-2 c = let a = c .before .before .before .before .args in λ k s procs q h name. c .named .ensures k s q h ∙ ap (valueOf s) (sym name) ∙ register-present k s (a .n / 8) (a .n % 8) (omega (arith, procs, c .before .before .before .wide .ensures .0))
 
 pub register-spec : {M : Type 1} → statement M
 register-spec =

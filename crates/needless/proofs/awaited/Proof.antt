@@ -5,7 +5,7 @@ use Rattle.sure.specs.Dead.{awaits as isAwaiting}
 use Rattle.rules.specs.State.{State}
 use Rattle.words.specs.Small.{someBelow}
 use Rattle.words.specs.Sets.{has}
-use Rattle.machine.specs.Shown.{Acts}
+use Rattle.machine.specs.Shown.{shownEntry, Acts}
 use Rattle.cases.specs.declared.Case.{Case}
 use mathlib.Core.Bool.{_&&_, not}
 use native.Mathlib.Omega.{arith}
@@ -15,19 +15,16 @@ use Rattle.needless.proofs.awaited.Statement.{statement}
 use Rattle.needless.proofs.awaited.Tie as tie
 
 abbrev Inv-loop : tie.InvT-loop
-Inv-loop issued inner k acts found₀ j₀ found j = (j ≤ issued) × ((c : Case) (s : State) → Acts c issued acts s → found ≡ someBelow j (λ i. isAwaiting k (s .actions i) && not (has inner i)))
+Inv-loop acts issued inner k found₀ j₀ found j = (j ≤ issued) × ((c : Case) (s : State) → Acts c issued acts s → found ≡ someBelow j (λ i. isAwaiting k (s .actions i) && not (has inner i)))
 
 abbrev μ-loop : tie.MeasureT-loop
-μ-loop issued inner k acts found₀ j₀ found j = issued - j
+μ-loop acts issued inner k found₀ j₀ found j = issued - j
 
 loop-holds : tie.Need-loop-holds Inv-loop μ-loop
 loop-holds c = (search needs, λ k s h. below-none (λ i. isAwaiting (c .args .k) (s .actions i) && not (has (c .args .inner) i)))
 
-mul-e : tie.Need-mul-e Inv-loop μ-loop
-mul-e c = search needs
-
-array-copy-out-e : tie.Need-array-copy-out-e Inv-loop μ-loop
-array-copy-out-e c = search needs
+entry-at-requires : tie.Need-entry-at-requires Inv-loop μ-loop
+entry-at-requires c κs = search needs
 
 awaits-requires : tie.Need-awaits-requires Inv-loop μ-loop
 awaits-requires c κs = search needs
@@ -48,7 +45,7 @@ loop-again c =
     let w = c .before .awaits in (
       search needs,
       λ k s h.
-          let p = w .ensures k ∙ ap (isAwaiting (a .k)) (sym (action-at k (a .issued) (a .t1) s h (at .loop .j) (omega arith))) in
+          let p = w .ensures k ∙ ap (isAwaiting (a .k)) (ap (shownEntry k) (c .before .before .entry-at .ensures) ∙ sym (action-at k (a .issued) (a .acts .now) s h (at .loop .j) (omega arith))) in
           below-next (at .loop .j) (λ i. isAwaiting (a .k) (s .actions i) && not (has (a .inner) i)) (at .loop .found) _ (at .loop .inv .1 k s h) (λ i. p i && not (c .has .ensures i)),
     )
 
@@ -65,8 +62,7 @@ awaited-spec =
     Inv-loop
     μ-loop
     loop-holds
-    mul-e
-    array-copy-out-e
+    entry-at-requires
     awaits-requires
     has-requires
     add-j

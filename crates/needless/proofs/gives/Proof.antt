@@ -18,7 +18,7 @@ returns : tie.Need-returns
 returns c =
     let d = c .before .before .has in
     let w = c .before .has2 in
-    λ s h. shut-in _ _ _ (ap₂ (λ (x y : Bool). x && y) (w .ensures) (d .ensures)) (c .if1 .taken)
+    λ x s q h. shut-in _ _ _ (ap₂ (λ (x y : Bool). x && y) (w .ensures) (d .ensures)) (c .if1 .taken)
 
 item-value-requires : tie.Need-item-value-requires
 item-value-requires c κs = search needs
@@ -32,8 +32,8 @@ returns-2 c =
     let d = at .before .has in
     let w = at .has2 in
     let a = at .before .before .args in
-    λ s h. open-in _ _ _ _ (ap₂ (λ (x y : Bool). x && y) (w .ensures) (d .ensures)) (c .before .before .if1 .left)
-    (ap (λ (x : ℕ). eqb (a .v) x) (c .or-zero .ensures ∙ ap orZero (c .before .item-value .ensures s h)))
+    λ x s q h. open-in _ _ _ _ (ap₂ (λ (x y : Bool). x && y) (w .ensures) (d .ensures)) (c .before .before .if1 .left)
+    (ap (λ (x : ℕ). eqb (a .v) x) (c .or-zero .ensures ∙ ap orZero (c .before .item-value .ensures x s q h)))
 
 pub gives-spec : {M : Type 1} → statement M
 gives-spec =

@@ -3,6 +3,7 @@ use mathlib.Core.Bool.{false≢true}
 use borrow.Author.Tests.{not-true}
 use Rattle.rules.specs.Kinds.{assigns}
 use Rattle.rules.specs.State.{Action, kindOf}
+use Rattle.machine.specs.Shown.{shownEntry}
 use Rattle.machine.proofs.Entries.{action-at}
 use Rattle.sure.specs.Dead.{holdsOn}
 use Rattle.needless.proofs.Ignoring.{kinds-test}
@@ -10,11 +11,8 @@ use borrow.Author.Needs.{needs}
 use Rattle.needless.proofs.may_join.Statement.{statement}
 use Rattle.needless.proofs.may_join.Tie as tie
 
-mul-e : tie.Need-mul-e
-mul-e c = search needs
-
-array-copy-out-e : tie.Need-array-copy-out-e
-array-copy-out-e c = search needs
+entry-at-requires : tie.Need-entry-at-requires
+entry-at-requires c κs = search needs
 
 returns : tie.Need-returns
 returns c = λ k s h n t. absurd (false≢true t)
@@ -41,7 +39,7 @@ returns-4 c =
     let b = at .before .before .before .before .before in
     let a = b .args in
     λ k s h n t.
-    let z = action-at k (a .issued) (a .t2) s h (a .k) (b .pre .there) in
+    let z = action-at k (a .issued) (a .acts .now) s h (a .k) (b .pre .there) ∙ ap (shownEntry k) (sym (at .before .before .before .before .entry-at .ensures)) in
     record {
       kinds = kinds-test (q .result) (kindOf (s .actions (a .k))) (q .ensures .0 ∙ sym (ap kindOf z)) (at .before .if2 .left);
       renamed = ap (λ (x : Action). holdsOn s (a .k) (assigns (x .instr))) z ∙ sym (at .holds-on .ensures k s n z) ∙ c .before .if3 .left;
@@ -52,8 +50,7 @@ pub may-join-spec : {M : Type 1} → statement M
 may-join-spec =
     tie.close
     (tie.spec
-    mul-e
-    array-copy-out-e
+    entry-at-requires
     returns
     kind-of-requires
     returns-2

@@ -12,7 +12,7 @@ has-requires : tie.Need-has-requires
 has-requires c κs = search needs
 
 returns : tie.Need-returns
-returns c = λ s h. shut-in (c .before .has .result) _ _ (c .before .has .ensures) (c .if1 .taken)
+returns c = λ x s m h. shut-in (c .before .has .result) _ _ (c .before .has .ensures) (c .if1 .taken)
 
 item-value-requires : tie.Need-item-value-requires
 item-value-requires c κs = search needs
@@ -29,8 +29,8 @@ returns-2 c =
     let a = b .args in
     let v = c .before .or-zero in
     let u = c .before .before .item-value in
-    λ s h. open-in (c .before .before .before .before .has .result) _ _ _ (c .before .before .before .before .has .ensures) (c .before .before .before .if1 .left)
-    (ap not (c .some-gives .ensures s h ∙ ap (λ (x : ℕ). someBelow 64 (givesIn (a .c) s (a .word) (a .done) x)) (v .ensures ∙ ap orZero (u .ensures s h))))
+    λ x s m h. open-in (c .before .before .before .before .has .result) _ _ _ (c .before .before .before .before .has .ensures) (c .before .before .before .if1 .left)
+    (ap not (c .some-gives .ensures x s m h ∙ ap (λ (n : ℕ). someBelow 64 (givesIn x s (a .word) (a .done) n)) (v .ensures ∙ ap orZero (u .ensures x s m h))))
 
 pub novel-spec : {M : Type 1} → statement M
 novel-spec =

@@ -1,6 +1,7 @@
 use borrow.Author.Needs.{needs}
 use Rattle.spending.proofs.Rests.{no-set}
 use Rattle.orders.specs.Rows.{SetOf}
+use Rattle.cases.specs.declared.Case.{Case}
 use Rattle.rules.specs.State.{State}
 use Rattle.needless.specs.Echoes.{isNovel}
 use Rattle.machine.specs.Shown.{Acts}
@@ -11,13 +12,13 @@ use Rattle.needless.proofs.novel_items.Statement.{statement}
 use Rattle.needless.proofs.novel_items.Tie as tie
 
 abbrev Inv-loop : tie.InvT-loop
-Inv-loop c acts issued word done items₀ e₀ items e = (e ≤ 64) × ((s : State) → Acts c issued acts s → SetOf e (isNovel c s word done) items)
+Inv-loop memory acts issued word done items₀ e₀ items e = (e ≤ 64) × ((c : Case) (s : State) → c .memory ≡ memory → Acts c issued acts s → SetOf e (isNovel c s word done) items)
 
 abbrev μ-loop : tie.MeasureT-loop
-μ-loop c acts issued word done items₀ e₀ items e = 64 - e
+μ-loop memory acts issued word done items₀ e₀ items e = 64 - e
 
 loop-holds : tie.Need-loop-holds Inv-loop μ-loop
-loop-holds c = let a = c .args in (search needs, λ s h. no-set (isNovel (a .c) s (a .word) (a .done)))
+loop-holds c = let a = c .args in (search needs, λ x s m h. no-set (isNovel x s (a .word) (a .done)))
 
 novel-requires : tie.Need-novel-requires Inv-loop μ-loop
 novel-requires c κs = search needs
@@ -35,13 +36,13 @@ loop-again : tie.Need-loop-again Inv-loop μ-loop
 loop-again c =
     let at = c .before .before .before in
     let a = at .before .args in
-    (search needs, λ s h. c .with .ensures (isNovel (a .c) s (a .word) (a .done)) (at .loop .inv .1 s h) (c .before .novel .ensures s h))
+    (search needs, λ x s m h. c .with .ensures (isNovel x s (a .word) (a .done)) (at .loop .inv .1 x s m h) (c .before .novel .ensures x s m h))
 
 returns : tie.Need-returns Inv-loop μ-loop
 returns c =
     let a = c .before .before .args in
     let q : c .before .loop .e ≡ 64 = omega arith in
-    λ s h. subst (λ (n : ℕ). SetOf n (isNovel (a .c) s (a .word) (a .done)) (c .before .loop .items)) q (c .before .loop .inv .1 s h)
+    λ x s m h. subst (λ (n : ℕ). SetOf n (isNovel x s (a .word) (a .done)) (c .before .loop .items)) q (c .before .loop .inv .1 x s m h)
 
 pub novel-items-spec : {M : Type 1} → statement M
 novel-items-spec =

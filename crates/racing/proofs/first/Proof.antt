@@ -1,5 +1,4 @@
-use mathlib.Core.Path.{refl}
-use Rattle.machine.specs.Shown.{shown}
+use native.Mathlib.Omega.{arith}
 use Rattle.racing.proofs.Testing.{pair-found, pair-none}
 use borrow.Author.Needs.{needs}
 use Rattle.racing.proofs.first.Statement.{statement}
@@ -13,20 +12,14 @@ partner-requires c κs = search needs
 
 returns : tie.Need-returns
 returns c =
-    let then = c .before .before .before in
+    let then = c .before in
     let opener = then .before in
-    let start = opener .before .before .before .before in
-    let a = start .args in
-    let s = shown (a .c) (a .t2) in
-    pair-found s (opener .opener .result) (c .partner .result) (opener .opener .ensures (a .c) s (record { count = refl; actions = refl }) refl (start .pre .entries)) (then .if1 .taken) (c .partner .ensures (a .c) s (record { count = refl; actions = refl }) refl (start .pre .entries))
+    λ k s h o e. pair-found s (opener .opener .result) (c .partner .result) (opener .opener .ensures k s h o e) (omega (arith, h .count, then .if1 .taken)) (c .partner .ensures k s h o e)
 
 returns-2 : tie.Need-returns-2
 returns-2 c =
     let opener = c .before in
-    let start = opener .before .before .before .before in
-    let a = start .args in
-    let s = shown (a .c) (a .t2) in
-    pair-none s (opener .opener .result) (opener .opener .ensures (a .c) s (record { count = refl; actions = refl }) refl (start .pre .entries)) (c .if1 .left)
+    λ k s h o e. pair-none s (opener .opener .result) (opener .opener .ensures k s h o e) (omega (arith, h .count, c .if1 .left))
 
 pub first-spec : {M : Type 1} → statement M
 first-spec = tie.close (tie.spec opener-requires partner-requires returns returns-2)

@@ -1,12 +1,12 @@
 use mathlib.Core.Path.{_≡_, _∙_, sym, ap, subst}
 use Prim.Native.Nat.{ℕ, _≤_, _-_}
 use native.Mathlib.Omega.{arith}
-use lib.ListN.{getD}
 use Rattle.words.specs.Small.{someBelow}
 use Rattle.cases.specs.declared.Case.{Case}
 use Rattle.rules.specs.State.{State, waiting}
 use Rattle.orders.proofs.Reached.{below-none, below-next}
-use Rattle.machine.specs.Shown.{shownEntry, blankEntry, Acts}
+use Rattle.machine.specs.declared.Entry.{Entry}
+use Rattle.machine.specs.Shown.{shownEntry, Acts}
 use Rattle.machine.proofs.Entries.{action-at}
 use Rattle.racing.proofs.Answers.{waits, queued-is}
 use borrow.Author.Needs.{needs}
@@ -14,19 +14,16 @@ use Rattle.racing.proofs.queued.Statement.{statement}
 use Rattle.racing.proofs.queued.Tie as tie
 
 abbrev Inv-loop : tie.InvT-loop
-Inv-loop issued acts found₀ k₀ found k = (k ≤ issued) × ((c : Case) (s : State) → Acts c issued acts s → found ≡ someBelow k (λ j. waits (s .actions j)))
+Inv-loop acts issued found₀ k₀ found k = (k ≤ issued) × ((c : Case) (s : State) → Acts c issued acts s → found ≡ someBelow k (λ j. waits (s .actions j)))
 
 abbrev μ-loop : tie.MeasureT-loop
-μ-loop issued acts found₀ k₀ found k = issued - k
+μ-loop acts issued found₀ k₀ found k = issued - k
 
 loop-holds : tie.Need-loop-holds Inv-loop μ-loop
 loop-holds c = (search needs, λ k s h. below-none (λ j. waits (s .actions j)))
 
-mul-e : tie.Need-mul-e Inv-loop μ-loop
-mul-e c = search needs
-
-array-copy-out-e : tie.Need-array-copy-out-e Inv-loop μ-loop
-array-copy-out-e c = search needs
+entry-at-requires : tie.Need-entry-at-requires Inv-loop μ-loop
+entry-at-requires c κs = search needs
 
 wide-requires : tie.Need-wide-requires Inv-loop μ-loop
 wide-requires c κs = search needs
@@ -42,13 +39,14 @@ loop-less c = search needs
 
 loop-again : tie.Need-loop-again Inv-loop μ-loop
 loop-again c =
-    let at = c .before .before .before .before in
+    let entry = c .before .before in
+    let at = entry .before .before in
     let a = at .before .args in (
       search needs,
       λ k s h.
-          let e = action-at k (a .issued) (a .t1) s h (at .loop .k) (omega arith) in
+          let e = action-at k (a .issued) (a .acts .now) s h (at .loop .k) (omega arith) in
           below-next (at .loop .k) (λ j. waits (s .actions j)) (at .loop .found) (c .queued .result) (at .loop .inv .1 k s h)
-          (c .queued .ensures k ∙ ap (λ (p : ℕ). waiting p (shownEntry k (getD (a .t1) (at .loop .k) blankEntry))) (c .before .wide .ensures .0) ∙ ap waits (sym e)),
+          (c .queued .ensures k ∙ ap (λ (p : ℕ). waiting p (shownEntry k (entry .entry-at .result))) (c .before .wide .ensures .0) ∙ ap (λ (e : Entry). waits (shownEntry k e)) (entry .entry-at .ensures) ∙ ap waits (sym e)),
     )
 
 returns : tie.Need-returns Inv-loop μ-loop
@@ -64,8 +62,7 @@ queued-spec =
     Inv-loop
     μ-loop
     loop-holds
-    mul-e
-    array-copy-out-e
+    entry-at-requires
     wide-requires
     queued-requires
     add-k

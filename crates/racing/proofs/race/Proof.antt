@@ -64,7 +64,7 @@ returns-3 : tie.Need-returns-3
 returns-3 c =
     let then = c .before in
     let queued = then .before in
-    let else2 = queued .before .before .before in
+    let else2 = queued .before .before .before .before in
     let walk = else2 .before .before in
     let else = walk .before .before in
     let refusal = else .before in
@@ -78,13 +78,13 @@ returns-3 c =
     (waiting-as (a .block .now) (a .schedule .now) z k same (walk .walk .result) (walk .walk .ensures) (else2 .if2 .left) (sym (then .if3 .taken) ∙ queued .queued .ensures k s (record { count = refl; actions = refl })))
 
 first-requires : tie.Need-first-requires
-first-requires c κs = search needs
+first-requires c κs = let else2 = c .before .before .before .before .before .before .before .before in else2 .before .before .walk .ensures .valid .issued
 
 returns-4 : tie.Need-returns-4
 returns-4 c =
-    let else3 = c .before in
+    let else3 = c .before .before .before .before in
     let queued = else3 .before in
-    let else2 = queued .before .before .before in
+    let else2 = queued .before .before .before .before in
     let walk = else2 .before .before in
     let else = walk .before .before in
     let refusal = else .before in
@@ -94,7 +94,7 @@ returns-4 c =
     let same = read-as (a .block .now) (read .read-case .ensures) (own-none alone (a .block .now) (a .schedule .now) 0 z) in
     let k = read .read-case .result .case in
     let s = shown k (walk .walk .result .machine) in
-    raced-as (a .block .now) (a .schedule .now) z k same (walk .walk .result) (walk .walk .ensures) (else2 .if2 .left) (c .first .result .first) (c .first .result .second) (sym (else3 .if3 .left) ∙ queued .queued .ensures k s (record { count = refl; actions = refl })) (c .first .ensures)
+    raced-as (a .block .now) (a .schedule .now) z k same (walk .walk .result) (walk .walk .ensures) (else2 .if2 .left) (c .first .result .first) (c .first .result .second) (sym (else3 .if3 .left) ∙ queued .queued .ensures k s (record { count = refl; actions = refl })) (c .first .ensures k s (record { count = refl; actions = refl }) refl (walk .walk .ensures .valid .entries))
 
 pub race-spec : {M : Type 1} → statement M
 race-spec =

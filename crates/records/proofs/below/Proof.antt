@@ -1,13 +1,9 @@
--- The bytes passed are the same.
-use mathlib.Core.Path.{_≡_, sym, ap, _∙_}
-use mathlib.Core.List.{List}
+-- The bytes passed are the same, eight at a time.
+use mathlib.Core.Path.{_≡_}
 use Prim.Native.Nat.{ℕ, _≤_, _<_, _-_}
 use native.Mathlib.Omega.{arith}
-use borrow.Author.Count.{below-more}
 use lib.ListN.{length, getD}
-use lib.Seq.{ext-getD}
-use Rattle.runs.specs.Listing.{below}
-use Rattle.records.proofs.Order.{below-self, below-at}
+use Rattle.records.proofs.Order.{eight-order, eight-same}
 use Rattle.records.proofs.below.Statement.{statement}
 use Rattle.records.proofs.below.Tie as tie
 
@@ -20,23 +16,20 @@ abbrev μ-loop : tie.MeasureT-loop
 loop-holds : tie.Need-loop-holds Inv-loop μ-loop
 loop-holds c = (omega arith, λ k l. omega arith)
 
-shared-slice-read-if1 : tie.Need-shared-slice-read-if1 Inv-loop μ-loop
-shared-slice-read-if1 c = omega arith
+sub-loop : tie.Need-sub-loop Inv-loop μ-loop
+sub-loop c = omega arith
 
-shared-slice-read-if1-2 : tie.Need-shared-slice-read-if1-2 Inv-loop μ-loop
-shared-slice-read-if1-2 c = omega arith
+eight-requires : tie.Need-eight-requires Inv-loop μ-loop
+eight-requires c κs = omega arith
 
-shared-slice-read-result : tie.Need-shared-slice-read-result Inv-loop μ-loop
-shared-slice-read-result c = omega arith
-
-shared-slice-read-result-2 : tie.Need-shared-slice-read-result-2 Inv-loop μ-loop
-shared-slice-read-result-2 c = omega arith
+eight-requires-2 : tie.Need-eight-requires-2 Inv-loop μ-loop
+eight-requires-2 c κs = omega arith
 
 returns : tie.Need-returns Inv-loop μ-loop
 returns c =
-    let turn = c .before .before .before .before .before .before in
-    let args = turn .before .args in
-    below-at (turn .loop .i) (args .a .now) (args .b .now) (turn .loop .inv .1) (omega arith) (omega arith) (c .before .before .if1 .taken)
+    let at = c .before .before in
+    let turn = at .before .before in
+    eight-order (turn .before .before .before .pre) (omega arith) (at .eight .ensures) (c .before .eight2 .ensures) (turn .loop .inv .1) (c .if1 .taken)
 
 add-i : tie.Need-add-i Inv-loop μ-loop
 add-i c = omega arith
@@ -46,17 +39,15 @@ loop-less c = omega arith
 
 loop-again : tie.Need-loop-again Inv-loop μ-loop
 loop-again c =
-    let turn = c .before .before .before .before in
-    let args = turn .before .args in
-    (omega arith, below-more (λ k. getD (args .a .now) k 0 ≡ getD (args .b .now) k 0) (turn .loop .i) (turn .loop .inv .1) (c .if1 .left))
+    let at = c .before .before in
+    let turn = at .before .before in
+    (omega arith, eight-same (turn .before .before .before .pre) (omega arith) (at .eight .ensures) (c .before .eight2 .ensures) (turn .loop .inv .1) (c .if1 .left))
+
+below-from-requires : tie.Need-below-from-requires Inv-loop μ-loop
+below-from-requires c κs = let turn = c .before in record { long = turn .before .before .before .pre; within = turn .loop .inv .0; same = turn .loop .inv .1 }
 
 returns-2 : tie.Need-returns-2 Inv-loop μ-loop
-returns-2 c =
-    let turn = c .before in
-    let a = turn .before .args .a .now in
-    let b = turn .before .args .b .now in
-    let same : a ≡ b = ext-getD 0 a b (turn .before .pre) (λ k l. turn .loop .inv .1 k (omega arith)) in
-    sym (ap (λ (x : List ℕ). below a x) (sym same) ∙ below-self a)
+returns-2 c = c .below-from .ensures
 
 pub below-spec : {M : Type 1} → statement M
 below-spec =
@@ -65,12 +56,12 @@ below-spec =
     Inv-loop
     μ-loop
     loop-holds
-    shared-slice-read-if1
-    shared-slice-read-if1-2
-    shared-slice-read-result
-    shared-slice-read-result-2
+    sub-loop
+    eight-requires
+    eight-requires-2
     returns
     add-i
     loop-less
     loop-again
+    below-from-requires
     returns-2)

@@ -4,7 +4,8 @@ use native.Mathlib.Omega.{arith}
 use Rattle.cases.specs.declared.Case.{Case}
 use Rattle.rules.specs.State.{State, waiting}
 use Rattle.rules.specs.Result.{howMany}
-use Rattle.machine.specs.Shown.{Acts}
+use Rattle.machine.specs.declared.Entry.{Entry}
+use Rattle.machine.specs.Shown.{shownEntry, Acts}
 use Rattle.machine.proofs.Entries.{action-at}
 use Rattle.replaying.proofs.Results.{many-none, many-next}
 use borrow.Author.Needs.{needs}
@@ -12,19 +13,16 @@ use Rattle.replaying.proofs.queue_length.Statement.{statement}
 use Rattle.replaying.proofs.queue_length.Tie as tie
 
 abbrev Inv-loop : tie.InvT-loop
-Inv-loop issued p acts n₀ k₀ n k = (k ≤ issued) × (n ≤ k) × ((c : Case) (s : State) → Acts c issued acts s → n ≡ howMany k (λ j. waiting p (s .actions j)))
+Inv-loop acts issued p n₀ k₀ n k = (k ≤ issued) × (n ≤ k) × ((c : Case) (s : State) → Acts c issued acts s → n ≡ howMany k (λ j. waiting p (s .actions j)))
 
 abbrev μ-loop : tie.MeasureT-loop
-μ-loop issued p acts n₀ k₀ n k = issued - k
+μ-loop acts issued p n₀ k₀ n k = issued - k
 
 loop-holds : tie.Need-loop-holds Inv-loop μ-loop
 loop-holds c = let a = c .args in (search needs, search needs, λ k s h. many-none (λ j. waiting (a .p) (s .actions j)))
 
-mul-e : tie.Need-mul-e Inv-loop μ-loop
-mul-e c = search needs
-
-array-copy-out-e : tie.Need-array-copy-out-e Inv-loop μ-loop
-array-copy-out-e c = search needs
+entry-at-requires : tie.Need-entry-at-requires Inv-loop μ-loop
+entry-at-requires c κs = search needs
 
 queued-requires : tie.Need-queued-requires Inv-loop μ-loop
 queued-requires c κs = search needs
@@ -43,12 +41,13 @@ loop-less c = search needs
 
 loop-again : tie.Need-loop-again Inv-loop μ-loop
 loop-again c =
-    let at = c .before .before .before .before in
-    let a = c .before .before .before .before .before .args in (
+    let entry = c .before .before in
+    let at = entry .before .before in
+    let a = at .before .args in (
       search needs,
       search needs,
       λ k s h. many-next (at .loop .k) (λ j. waiting (a .p) (s .actions j)) (c .one-if .result) (at .loop .n) (c .before .queued .result)
-          (c .before .queued .ensures k ∙ ap (waiting (a .p)) (sym (action-at k (a .issued) (a .t1) s h (at .loop .k) (omega arith)))) (c .one-if .ensures .0) (at .loop .inv .2 k s h),
+          (c .before .queued .ensures k ∙ ap (λ (e : Entry). waiting (a .p) (shownEntry k e)) (entry .entry-at .ensures) ∙ ap (waiting (a .p)) (sym (action-at k (a .issued) (a .acts .now) s h (at .loop .k) (omega arith)))) (c .one-if .ensures .0) (at .loop .inv .2 k s h),
     )
 
 returns : tie.Need-returns Inv-loop μ-loop
@@ -64,8 +63,7 @@ queue-length-spec =
     Inv-loop
     μ-loop
     loop-holds
-    mul-e
-    array-copy-out-e
+    entry-at-requires
     queued-requires
     one-if-requires
     add-n

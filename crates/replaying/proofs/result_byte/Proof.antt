@@ -11,13 +11,13 @@ element-copy-out-result : tie.Need-element-copy-out-result
 element-copy-out-result c = search needs
 
 returns : tie.Need-returns
-returns c = let a = c .before .before .args in λ s h q r. ap (λ (l : List ℕ). getD l (a .i) 0) r ∙ result-register (a .c) s (a .i) (c .before .if1 .taken)
+returns c = let a = c .before .before .args in λ k s e h q r. ap (λ (l : List ℕ). getD l (a .i) 0) r ∙ result-register k s (a .i) (c .before .if1 .taken)
 
 tail-byte-requires : tie.Need-tail-byte-requires
 tail-byte-requires c κs = search needs
 
 returns-2 : tie.Need-returns-2
-returns-2 c = let a = c .before .before .args in λ s h q r. c .tail-byte .ensures s h q ∙ result-tail (a .c) s (a .i) (c .before .if1 .left)
+returns-2 c = let a = c .before .before .args in λ k s e h q r. c .tail-byte .ensures k s e h q ∙ result-tail k s (a .i) (c .before .if1 .left)
 
 pub result-byte-spec : {M : Type 1} → statement M
 result-byte-spec =

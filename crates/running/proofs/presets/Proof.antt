@@ -48,10 +48,10 @@ loop-less c = search needs
 -- src/lib.rt:425:5
 loop-again : tie.Need-loop-again Inv-loop μ-loop
 loop-again c =
-    let at = c .before .before in
+    let at = c .before .before .before .before .before in
     let a = at .before .args in
     let i = at .loop .i in
-    (search needs, length-set (at .loop .out) i _ ∙ at .loop .inv .1, λ n h. elim (decLt n i) [ yes l ↦ ap shownValue (getD-set-other (at .loop .out) i n _ unknown (λ q. absurd (omega arith))) ∙ at .loop .inv .2 n l | no l ↦ let q : n ≡ i = omega arith in ap (λ (m : ℕ). shownValue (getD (lib.ListN.set (at .loop .out) i (c .preset-of .result)) m unknown)) q ∙ ap shownValue (getD-set-same (at .loop .out) i (c .preset-of .result) unknown (omega (arith, at .loop .inv .1))) ∙ c .preset-of .ensures ∙ ap (λ (m : ℕ). presetOf (a .c) (m / 8) (m % 8)) (mathlib.Core.Path.sym q) ])
+    (search needs, length-set (at .loop .out) i _ ∙ at .loop .inv .1, λ n h. elim (decLt n i) [ yes l ↦ ap shownValue (getD-set-other (at .loop .out) i n _ unknown (λ q. absurd (omega arith))) ∙ at .loop .inv .2 n l | no l ↦ let q : n ≡ i = omega arith in ap (λ (m : ℕ). shownValue (getD (lib.ListN.set (at .loop .out) i (c .preset-of .result)) m unknown)) q ∙ ap shownValue (getD-set-same (at .loop .out) i (c .preset-of .result) unknown (omega (arith, at .loop .inv .1))) ∙ c .preset-of .ensures (a .t1) (record { masks = refl; presets = refl }) ∙ ap (λ (m : ℕ). presetOf (a .t1) (m / 8) (m % 8)) (mathlib.Core.Path.sym q) ])
 
 -- src/lib.rt:415:1
 returns : tie.Need-returns Inv-loop μ-loop

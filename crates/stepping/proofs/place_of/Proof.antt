@@ -1,4 +1,5 @@
-use mathlib.Core.Path.{_∙_, sym}
+use mathlib.Core.Path.{_∙_, sym, ap}
+use Rattle.machine.specs.declared.Entry.{Entry}
 use Rattle.stepping.proofs.Places.{no-place, issue-low, issue-place, commit-low, commit-place}
 use borrow.Author.Needs.{needs}
 use Rattle.stepping.proofs.place_of.Statement.{statement}
@@ -19,20 +20,18 @@ returns c =
     let a = b .args in
     issue-place (a .c) (a .t2) (b .pre .valid) (a .kind) (a .proc) (a .action) (a .source) (a .code) (b .pre .is) (sym (c .before .before .before .names .ensures) ∙ c .before .before .if1 .taken) (c .before .if2 .taken)
 
-mul-e : tie.Need-mul-e
-mul-e c = search needs
-
-element-copy-out-e : tie.Need-element-copy-out-e
-element-copy-out-e c =
-    let b = c .before .before .before in
+entry-at-requires : tie.Need-entry-at-requires
+entry-at-requires c κs =
+    let b = c .before .before .before .before .before in
     let a = b .args in
-    commit-low (a .c) (a .t2) (b .pre .valid) (a .kind) (a .proc) (a .action) (a .source) (a .code) (b .pre .is) (sym (c .before .before .names .ensures) ∙ c .before .if1 .taken) (c .if2 .left)
+    commit-low (a .c) (a .t2) (b .pre .valid) (a .kind) (a .proc) (a .action) (a .source) (a .code) (b .pre .is) (sym (c .before .before .before .before .names .ensures) ∙ c .before .before .before .if1 .taken) (c .before .before .if2 .left)
 
 returns-2 : tie.Need-returns-2
 returns-2 c =
-    let b = c .before .before .before .before in
+    let b = c .before .before .before .before .before .before in
     let a = b .args in
-    commit-place (a .c) (a .t2) (b .pre .valid) (a .kind) (a .proc) (a .action) (a .source) (a .code) (b .pre .is) (sym (c .before .before .before .names .ensures) ∙ c .before .before .if1 .taken) (c .before .if2 .left)
+    ap (λ (e : Entry). e .place) (c .entry-at .ensures)
+    ∙ commit-place (a .c) (a .t2) (b .pre .valid) (a .kind) (a .proc) (a .action) (a .source) (a .code) (b .pre .is) (sym (c .before .before .before .before .before .names .ensures) ∙ c .before .before .before .before .if1 .taken) (c .before .before .before .if2 .left)
 
 returns-3 : tie.Need-returns-3
 returns-3 c =
@@ -47,7 +46,6 @@ place-of-spec =
     names-requires
     element-copy-out-result
     returns
-    mul-e
-    element-copy-out-e
+    entry-at-requires
     returns-2
     returns-3)

@@ -5,7 +5,8 @@ use native.Mathlib.Omega.{arith}
 use Rattle.cases.specs.declared.Case.{Case}
 use Rattle.cases.proofs.Lowest.{lowest-is}
 use Rattle.rules.specs.State.{State, waiting}
-use Rattle.machine.specs.Shown.{Acts}
+use Rattle.machine.specs.declared.Entry.{Entry}
+use Rattle.machine.specs.Shown.{shownEntry, Acts}
 use Rattle.machine.proofs.Entries.{action-at}
 use Rattle.waiting.proofs.Reasons.{none-more}
 use borrow.Author.Needs.{needs}
@@ -13,30 +14,28 @@ use Rattle.waiting.proofs.oldest.Statement.{statement}
 use Rattle.waiting.proofs.oldest.Tie as tie
 
 abbrev Inv-loop : tie.InvT-loop
-Inv-loop issued p acts k₀ k = (k ≤ issued) × ((c : Case) (s : State) → Acts c issued acts s → (j : ℕ) → j < k → waiting p (s .actions j) ≡ false)
+Inv-loop acts issued p k₀ k = (k ≤ issued) × ((c : Case) (s : State) → Acts c issued acts s → (j : ℕ) → j < k → waiting p (s .actions j) ≡ false)
 
 abbrev μ-loop : tie.MeasureT-loop
-μ-loop issued p acts k₀ k = issued - k
+μ-loop acts issued p k₀ k = issued - k
 
 loop-holds : tie.Need-loop-holds Inv-loop μ-loop
 loop-holds c = (search needs, λ k s h j l. absurd (omega arith))
 
-mul-e : tie.Need-mul-e Inv-loop μ-loop
-mul-e c = search needs
-
-array-copy-out-e : tie.Need-array-copy-out-e Inv-loop μ-loop
-array-copy-out-e c = search needs
+entry-at-requires : tie.Need-entry-at-requires Inv-loop μ-loop
+entry-at-requires c κs = search needs
 
 queued-requires : tie.Need-queued-requires Inv-loop μ-loop
 queued-requires c κs = search needs
 
 returns : tie.Need-returns Inv-loop μ-loop
 returns c =
-    let at = c .before .before .before .before in
+    let entry = c .before .before in
+    let at = entry .before .before in
     let a = at .before .args in
     λ k s h.
     lowest-is (s .count) (λ j. waiting (a .p) (s .actions j)) (at .loop .k) (omega (arith, h .count)) (at .loop .inv .1 k s h)
-    (λ l. ap (waiting (a .p)) (action-at k (a .issued) (a .t1) s h (at .loop .k) (omega (arith, h .count))) ∙ sym (c .before .queued .ensures k) ∙ c .if1 .taken)
+    (λ l. ap (waiting (a .p)) (action-at k (a .issued) (a .acts .now) s h (at .loop .k) (omega (arith, h .count))) ∙ sym (c .before .queued .ensures k ∙ ap (λ (e : Entry). waiting (a .p) (shownEntry k e)) (entry .entry-at .ensures)) ∙ c .if1 .taken)
 
 add-k : tie.Need-add-k Inv-loop μ-loop
 add-k c = search needs
@@ -46,12 +45,13 @@ loop-less c = search needs
 
 loop-again : tie.Need-loop-again Inv-loop μ-loop
 loop-again c =
-    let at = c .before .before .before .before in
+    let entry = c .before .before in
+    let at = entry .before .before in
     let a = at .before .args in (
       search needs,
       λ k s h.
           none-more (λ j. waiting (a .p) (s .actions j)) (at .loop .k) (at .loop .inv .1 k s h)
-          (ap (waiting (a .p)) (action-at k (a .issued) (a .t1) s h (at .loop .k) (omega arith)) ∙ sym (c .before .queued .ensures k) ∙ c .if1 .left),
+          (ap (waiting (a .p)) (action-at k (a .issued) (a .acts .now) s h (at .loop .k) (omega arith)) ∙ sym (c .before .queued .ensures k ∙ ap (λ (e : Entry). waiting (a .p) (shownEntry k e)) (entry .entry-at .ensures)) ∙ c .if1 .left),
     )
 
 returns-2 : tie.Need-returns-2 Inv-loop μ-loop
@@ -70,8 +70,7 @@ oldest-spec =
     Inv-loop
     μ-loop
     loop-holds
-    mul-e
-    array-copy-out-e
+    entry-at-requires
     queued-requires
     returns
     add-k

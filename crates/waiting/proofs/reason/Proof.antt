@@ -1,9 +1,8 @@
-use mathlib.Core.Path.{_≡_, _∙_, refl, sym, ap, subst}
+use mathlib.Core.Path.{_≡_, _∙_, sym, ap, subst}
 use Prim.Native.Nat.{ℕ, _≤_, _<_}
 use native.Mathlib.Omega.{arith}
 use lib.Dec.{eqb}
 use Rattle.rules.specs.State.{State, Action, kindOf}
-use Rattle.machine.specs.Shown.{shown}
 use Rattle.machine.proofs.Entries.{action-at}
 use Rattle.waiting.proofs.Reasons.{nothing-queued, reason-behind}
 use borrow.Author.Needs.{needs}
@@ -15,40 +14,34 @@ oldest-requires c κs = search needs
 
 returns : tie.Need-returns
 returns c =
-    let a = c .before .before .before .args in
-    let s = shown (a .c) (a .t2) in
-    nothing-queued (a .c) s (a .p) (subst (λ (n : ℕ). s .count ≤ n) (c .before .oldest .ensures (a .c) s (record { count = refl; actions = refl })) (c .if1 .taken))
+    let a = c .before .before .args in
+    λ k s q h e. nothing-queued k s (a .p) (subst (λ (n : ℕ). s .count ≤ n) (c .before .oldest .ensures k s h) (omega (arith, h .count, c .if1 .taken)))
 
 commit-code-requires : tie.Need-commit-code-requires
 commit-code-requires c κs = search needs
 
-mul-e : tie.Need-mul-e
-mul-e c = search needs
-
-array-copy-out-e : tie.Need-array-copy-out-e
-array-copy-out-e c = search needs
-
-kind-of-requires : tie.Need-kind-of-requires
-kind-of-requires c κs = search needs
+kind-at-requires : tie.Need-kind-at-requires
+kind-at-requires c κs = search needs
 
 behind-requires : tie.Need-behind-requires
 behind-requires c κs = search needs
 
 returns-2 : tie.Need-returns-2
 returns-2 c =
-    let commit = c .before .before .before in
-    let else = commit .before .before .before .before in
+    let kind = c .before in
+    let commit = kind .before in
+    let else = commit .before in
     let oldest = else .before in
-    let a = oldest .before .before .args in
-    let s = shown (a .c) (a .t2) in
-    let k = oldest .oldest .result in
-    let low : k < s .count = else .if1 .left in
+    let a = oldest .before .args in
+    let i = oldest .oldest .result in
+    λ k s q h e.
+    let low : i < s .count = omega (arith, h .count, else .if1 .left) in
     c .behind .ensures
-    ∙ reason-behind (a .c) s (a .p) k (commit .commit-code .result) _
-    (oldest .oldest .ensures (a .c) s (record { count = refl; actions = refl }))
+    ∙ reason-behind k s (a .p) i (commit .commit-code .result) _
+    (oldest .oldest .ensures k s h)
     low
-    (commit .commit-code .ensures s (record { count = refl; actions = refl }) refl refl)
-    (ap (λ (n : ℕ). eqb n 6) (c .before .kind-of .ensures .0 ∙ ap (λ (x : Action). kindOf x) (sym (action-at (a .c) (s .count) (a .t2 .acts) s (record { count = refl; actions = refl }) k low))))
+    (commit .commit-code .ensures k s q h e)
+    (ap (λ (n : ℕ). eqb n 6) (kind .kind-at .ensures .0 ∙ ap (λ (x : Action). kindOf x) (sym (action-at k (a .issued) (a .acts .now) s h i (omega (arith, else .if1 .left))))))
 
 pub reason-spec : {M : Type 1} → statement M
 reason-spec =
@@ -57,8 +50,6 @@ reason-spec =
     oldest-requires
     returns
     commit-code-requires
-    mul-e
-    array-copy-out-e
-    kind-of-requires
+    kind-at-requires
     behind-requires
     returns-2)
