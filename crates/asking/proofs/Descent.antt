@@ -31,11 +31,14 @@ use Rattle.sure.specs.Spent.{Key, taking, issuing, stepBy}
 use Rattle.sure.specs.Equal.{Needless}
 use Rattle.machine.specs.declared.Machine.{Machine}
 use Rattle.machine.specs.Shown.{shown}
+use Rattle.machine.specs.Kept.{Kept}
 use Rattle.machine.specs.Valid.{Valid}
 use Rattle.machine.specs.Given.{Showing}
+use Rattle.machine.specs.Lent.{Lent, Ending}
 use Rattle.spending.specs.Words.{spentBy, keyAt, opensAt}
 use Rattle.choices.specs.Choice.{NextAt}
-use Rattle.searching.specs.declared.Span.{Span}
+use Rattle.choices.specs.Given.{Scanning}
+use Rattle.asking.specs.declared.Span.{Span}
 use Rattle.searching.proofs.Opened.{opens-step}
 use Rattle.searching.proofs.Starts.{spent-none}
 use Rattle.asking.specs.Inner.{Standing, InReach, ReachOf, stepAt, FirstInReach, rowOf, rankIn, Placed, RowSpan, LowestAt}
@@ -43,10 +46,30 @@ use Rattle.asking.specs.declared.Reach.{Reach}
 use Rattle.asking.proofs.Rows.{lower-rows, row-below}
 
 -- what the branch of a step is given
-pub standing-next : {c : Case} {m next : Machine} {n : ℕ} {ahead : Bool} {asked : Asked} → Standing c m n ahead asked → (t : Step) → stepCode c (shown c m) t ≡ 0
-    → Showing c (after c (shown c m) t) next → Standing c next (n - 1) ahead asked
-standing-next {c} {m} S t h took =
-    record { valid = took .valid; reached = subst (Reachable (womm c)) (sym (took .shows)) (reachable-step (womm c) (S .reached) t h); forwards = S .forwards; few = omega (arith, S .few); asks = S .asks }
+pub standing-next : {c : Case} {program : List ℕ} {m next : Machine} {n : ℕ} {ahead : Bool} {asked : Asked} → Standing c program m n ahead asked → (t : Step) → stepCode c (shown c m) t ≡ 0
+    → Showing c (after c (shown c m) t) next → Standing c program next (n - 1) ahead asked
+standing-next {c} S t h took =
+    record { coded = S .coded; valid = took .valid; reached = subst (Reachable (womm c)) (sym (took .shows)) (reachable-step (womm c) (S .reached) t h); forwards = S .forwards; few = omega (arith, S .few); asks = S .asks }
+
+-- what the next step is asked of, and what it answers
+pub scanning-at : {c : Case} {program : List ℕ} {m : Machine} {n : ℕ} {ahead : Bool} {asked : Asked} {at to : ℕ} → Standing c program m n ahead asked → at ≤ to → to ≤ 3200
+    → Scanning (c .counts) (m .names) (m .holders) (c .procs) (m .issued) (replicate 50 0) at to
+scanning-at S rising upto =
+    let v = S .valid in
+    record {
+      asking = record { issued = v .issued; few = v .fit .procs; counted = v .fit .counts; names-long = v .names-long; holders-long = v .holders-long };
+      rising = rising;
+      upto = upto;
+      long = refl;
+    }
+
+pub next-at : {c : Case} {program : List ℕ} {m : Machine} {n : ℕ} {ahead : Bool} {asked : Asked} {at to j : ℕ} → Standing c program m n ahead asked
+    → ((d : Case) → Lent d program (c .counts) (c .masks) (c .presets) (c .procs) (c .locs) → d .memory ≡ c .memory → Valid d m → NextAt d (shown d m) (replicate 50 0) at to j) → NextAt c (shown c m) (replicate 50 0) at to j
+next-at {c} S next = next c (record { coded = S .coded; counted = refl; starts = record { masks = refl; presets = refl }; present = refl; located = refl }) refl (S .valid)
+
+-- whether a machine is finished
+pub ended-at : {c : Case} {m : Machine} {r : Bool} → Valid c m → ((d : Case) (s : State) → Ending d s (c .counts) (m .places) (c .procs) → Kept d s (m .sets) → r ≡ finished d s) → r ≡ finished c (shown c m)
+ended-at {c} {m} v ends = ends c (shown c m) (record { fit = v .fit; present = refl; counted = refl; placed = refl }) (v .kept)
 
 -- what a search after a step says
 module _ {c : Case} {W : List ℕ → Bool} (s : State) {next : State} {n : ℕ} {r : Reach} (t : Step) (shows : next ≡ after c s t) (F : ReachOf c W next n r) where

@@ -27,7 +27,7 @@ use Rattle.sure.proofs.Sweep.{source-there}
 use Rattle.records.proofs.Growth.{in-second}
 use Rattle.spending.specs.Words.{opens, keyIn, keyAt, opensAt}
 use Rattle.spending.proofs.Spends.{key-issue}
-use Rattle.searching.specs.declared.Span.{Span}
+use Rattle.asking.specs.declared.Span.{Span}
 use Rattle.searching.proofs.Opened.{key-read, read-open, other-open, issue-open}
 use Rattle.asking.specs.Inner.{stepAt, rowOf, rankIn, Placed, RowSpan}
 

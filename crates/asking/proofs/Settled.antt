@@ -18,6 +18,7 @@ use Rattle.sure.specs.Sure.{forward}
 use Rattle.machine.specs.declared.Machine.{Machine}
 use Rattle.machine.specs.Shown.{shown}
 use Rattle.machine.specs.Valid.{Valid}
+use Rattle.machine.specs.Lent.{Program}
 use Rattle.asking.specs.declared.Reach.{Reach}
 use Rattle.asking.specs.Inner.{Standing, InReach, ReachOf}
 
@@ -47,8 +48,8 @@ module _ {c : Case} {W : List ℕ → Bool} {s : State} {n : ℕ} (shows : s ≡
       }
 
 -- what the search from the start is given
-pub standing-start : {c : Case} {m : Machine} {n : ℕ} {ahead : Bool} {asked : Asked} → (shown c m ≡ initial c) × Valid c m → ahead ≡ forward c → n ≤ 96 → Askable asked → Standing c m n ahead asked
-standing-start {c} starts forwards few asks = record { valid = starts .1; reached = subst (Reachable (womm c)) (sym (starts .0)) (reachable-start (womm c)); forwards = forwards; few = few; asks = asks }
+pub standing-start : {c : Case} {program : List ℕ} {m : Machine} {n : ℕ} {ahead : Bool} {asked : Asked} → Program c program → (shown c m ≡ initial c) × Valid c m → ahead ≡ forward c → n ≤ 96 → Askable asked → Standing c program m n ahead asked
+standing-start {c} coded starts forwards few asks = record { coded = coded; valid = starts .1; reached = subst (Reachable (womm c)) (sym (starts .0)) (reachable-start (womm c)); forwards = forwards; few = few; asks = asks }
 
 -- a cleared buffer of 384 bytes
 pub all-clear : (buf : List ℕ) {out : List ℕ} → out ≡ replicate (length buf) 0 → length buf ≡ 384 → out ≡ replicate 384 0

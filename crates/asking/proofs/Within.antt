@@ -26,8 +26,8 @@ use Rattle.searching.specs.Searched.{Tells, Searched}
 use Rattle.searching.proofs.Starts.{empty, ready-start, tells-nothing, told-fresh}
 use Rattle.asking.specs.Inner.{Standing, InReach, ReachOf}
 
-pub ready-ask : {c : Case} {m : Machine} {n : ℕ} {ahead : Bool} {asked : Asked} → Standing c m n ahead asked → {zeros : List ℕ} → zeros ≡ replicate 1 0 → Ready c m 3200 n ahead asked (replicate 50 0) zeros empty
-ready-ask S z = ready-start 1 (S .reached) (S .valid) (S .forwards) (S .few) (S .asks) z
+pub ready-ask : {c : Case} {program : List ℕ} {m : Machine} {n : ℕ} {ahead : Bool} {asked : Asked} → Standing c program m n ahead asked → {zeros : List ℕ} → zeros ≡ replicate 1 0 → Ready c program m 3200 n ahead asked (replicate 50 0) zeros empty
+ready-ask S z = ready-start 1 (S .coded) (S .reached) (S .valid) (S .forwards) (S .few) (S .asks) z
 
 -- more than none is one
 one-of : {P : List ℕ → Type 0} (k : ℕ) → k ≡ 0 → MoreThan k P → (r : List ℕ) × P r

@@ -24,12 +24,14 @@ use Rattle.machine.specs.declared.Machine.{Machine}
 use Rattle.machine.specs.Fit.{Fit}
 use Rattle.machine.specs.Shown.{shown}
 use Rattle.machine.specs.Valid.{Valid}
+use Rattle.machine.specs.Lent.{Program}
 use Rattle.spending.specs.Words.{keyAt, opensAt}
-use Rattle.searching.specs.declared.Span.{Span}
+use Rattle.asking.specs.declared.Span.{Span}
 use Rattle.asking.specs.declared.Reach.{Reach}
 
--- A machine that is reached, with at most 96 steps to go, and clauses that can be asked.
-pub record Standing (c : Case) (m : Machine) (n : ℕ) (ahead : Bool) (asked : Asked) : Type 0 where
+-- The program of a case, a machine that is reached, with at most 96 steps to go, and clauses that can be asked.
+pub record Standing (c : Case) (program : List ℕ) (m : Machine) (n : ℕ) (ahead : Bool) (asked : Asked) : Type 0 where
+  pub coded : Program c program
   pub valid : Valid c m
   pub reached : Reachable (womm c) (shown c m)
   pub forwards : ahead ≡ forward c
@@ -50,15 +52,15 @@ abbrev pub stepAt : State → ℕ → Step
 stepAt s j = stepBy s (keyAt j)
 
 -- Such a machine, with a step to go, and positions to look at.
-pub record Looking (c : Case) (m : Machine) (n : ℕ) (ahead : Bool) (asked : Asked) (from to : ℕ) : Type 0 where
-  pub standing : Standing c m n ahead asked
+pub record Looking (c : Case) (program : List ℕ) (m : Machine) (n : ℕ) (ahead : Bool) (asked : Asked) (from to : ℕ) : Type 0 where
+  pub standing : Standing c program m n ahead asked
   pub more : 0 < n
   pub rising : from ≤ to
   pub upto : to ≤ 3200
 
 -- Such a machine, not finished, from which an outcome is wanted.
-pub record Leading (c : Case) (m : Machine) (n : ℕ) (ahead : Bool) (asked : Asked) : Type 0 where
-  pub standing : Standing c m n ahead asked
+pub record Leading (c : Case) (program : List ℕ) (m : Machine) (n : ℕ) (ahead : Bool) (asked : Asked) : Type 0 where
+  pub standing : Standing c program m n ahead asked
   pub more : 0 < n
   pub undone : finished c (shown c m) ≡ false
   pub held : InReach c (wanted asked) (shown c m) n
@@ -75,9 +77,15 @@ pub record Fitting (c : Case) (m : Machine) (j : ℕ) : Type 0 where
   pub low : j < 3200
   pub fits : stepCode c (shown c m) (stepAt (shown c m) j) ≡ 0
 
+-- The same, and the program of its case.
+pub record Going (c : Case) (program : List ℕ) (m : Machine) (j : ℕ) : Type 0 where
+  pub coded : Program c program
+  pub fitting : Fitting c m j
+
 -- A case from whose start an outcome is wanted, and an empty schedule.
-pub record Wanting (c : Case) (n : ℕ) (ahead : Bool) (asked : Asked) (bytes : List ℕ) : Type 0 where
+pub record Wanting (c : Case) (program : List ℕ) (n : ℕ) (ahead : Bool) (asked : Asked) (bytes : List ℕ) : Type 0 where
   pub fit : Fit c
+  pub coded : Program c program
   pub forwards : ahead ≡ forward c
   pub few : n ≤ 96
   pub asks : Askable asked

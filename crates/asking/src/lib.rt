@@ -3,7 +3,6 @@ use cases::Case;
 use clauses::Asked;
 use clauses::Clause;
 use machine::Machine;
-use searching::Span;
 use searching::Tally;
 ghost use mathlib.Core.Path.{_≡_};
 ghost use mathlib.Core.Bool.{true, false};
@@ -12,17 +11,25 @@ ghost use Prim.Native.Nat.{_+_, _-_, _≤_, _<_};
 ghost use lib.ListN.{length, set};
 ghost use Rattle.clauses.specs.Wanted.{wanted, clausesOf};
 ghost use Rattle.runs.specs.Asking.{Laid, IsAnswer, Refused};
+ghost use Rattle.rules.specs.Step.{after};
 ghost use Rattle.rules.specs.Result.{finished};
 ghost use Rattle.rules.specs.Womm.{womm};
 ghost use Rattle.rules.specs.Bytes.{stepBytes};
 ghost use Rattle.machine.specs.Shown.{shown};
+ghost use Rattle.machine.specs.Given.{Showing};
 ghost use Rattle.asking.specs.Asked.{answerOf, badClause, badClauses, IsAsked};
-ghost use Rattle.asking.specs.Inner.{Standing, Looking, Leading, Rowed, Fitting, Wanting, ReachOf, stepAt, FirstInReach, RowSpan, LowestAt, Settling};
+ghost use Rattle.asking.specs.Inner.{Standing, Looking, Leading, Rowed, Fitting, Going, Wanting, ReachOf, stepAt, FirstInReach, RowSpan, LowestAt, Settling};
 
 // Whether an outcome is within reach, and, if none is, whether a run was cut.
 pub struct Reach {
     pub found: bool,
     pub cut: bool,
+}
+
+// The positions from, from + 1, .., to - 1.
+pub struct Span {
+    pub from: usize,
+    pub to: usize,
 }
 
 // The four bytes of a step.
@@ -43,8 +50,15 @@ pub struct Answer {
 }
 
 // Whether an outcome of m within n steps meets the clauses: a list of those that do, with no room for one.
-fn within_reach(c: Case, m: Machine, n: usize, ahead: bool, asked: Asked) -> Reach
-    requires { ⌜ Standing c m n ahead asked ⌝ }
+fn within_reach(
+    c: Case,
+    program: &[u64; 48],
+    m: Machine,
+    n: usize,
+    ahead: bool,
+    asked: Asked,
+) -> Reach
+    requires { ⌜ Standing c (now program) m n ahead asked ⌝ }
     ensures { λ r. ⌜ ReachOf c (wanted asked) (shown c m) n r ⌝ }
 {
     let mut none = [0u8; 1];
@@ -54,16 +68,70 @@ fn within_reach(c: Case, m: Machine, n: usize, ahead: bool, asked: Asked) -> Rea
         full: false,
     };
     let fresh = [0u64; 50];
-    let tally = searching::explore(c, m, 3200, n, ahead, asked, &fresh, &mut none, empty);
+    let tally = searching::explore(
+        c,
+        program,
+        &m.places,
+        &m.names,
+        &m.holders,
+        &m.acts,
+        &m.rows,
+        &m.sets,
+        m.issued,
+        3200,
+        n,
+        ahead,
+        asked,
+        &fresh,
+        &mut none,
+        empty,
+    );
     Reach {
         found: tally.full,
         cut: tally.cut,
     }
 }
 
+// The machine after the step at position j, which is accepted.
+fn after_step(c: Case, program: &[u64; 48], m: Machine, j: usize) -> Machine
+    requires { ⌜ Going c (now program) m j ⌝ }
+    ensures { λ r. ⌜ Showing c (after c (shown c m) (stepAt (shown c m) j)) r ⌝ }
+{
+    let mut places = m.places;
+    let mut names = m.names;
+    let mut holders = m.holders;
+    let mut acts = m.acts;
+    let mut rows = m.rows;
+    let mut sets = m.sets;
+    let issued = searching::enter(
+        program,
+        &c.masks,
+        &c.presets,
+        &c.memory,
+        &mut places,
+        &mut names,
+        &mut holders,
+        &mut acts,
+        &mut rows,
+        &mut sets,
+        m.issued,
+        j,
+    );
+    Machine {
+        issued,
+        places,
+        names,
+        holders,
+        acts,
+        rows,
+        sets,
+    }
+}
+
 // The first position from `from` on after whose step an outcome is within reach, else `to`.
 fn first_in_reach(
     c: Case,
+    program: &[u64; 48],
     m: Machine,
     n: usize,
     ahead: bool,
@@ -71,15 +139,40 @@ fn first_in_reach(
     from: usize,
     to: usize,
 ) -> usize
-    requires { ⌜ Looking c m n ahead asked from to ⌝ }
+    requires { ⌜ Looking c (now program) m n ahead asked from to ⌝ }
     ensures { λ r. ⌜ FirstInReach c (wanted asked) (shown c m) (n - 1) from to r ⌝ }
 {
     let none = [0u64; 50];
     let mut at = from;
     while at < to {
-        let j = choices::next_step(c, m, &none, at, to);
+        let j = choices::next_step(
+            program,
+            &c.counts,
+            &c.masks,
+            &c.presets,
+            &c.memory,
+            &m.places,
+            &m.names,
+            &m.holders,
+            &m.acts,
+            &m.rows,
+            &m.sets,
+            c.procs,
+            c.locs,
+            m.issued,
+            &none,
+            at,
+            to,
+        );
         if j < to {
-            let r = within_reach(c, choices::take(c, m, j), n - 1, ahead, asked);
+            let r = within_reach(
+                c,
+                program,
+                after_step(c, program, m, j),
+                n - 1,
+                ahead,
+                asked,
+            );
             if r.found {
                 return j;
             }
@@ -123,15 +216,22 @@ fn row_span(c: Case, m: Machine, i: usize) -> Span
 }
 
 // The position of the lowest step after which an outcome is within reach.
-fn lowest_step(c: Case, m: Machine, n: usize, ahead: bool, asked: Asked) -> usize
-    requires { ⌜ Leading c m n ahead asked ⌝ }
+fn lowest_step(
+    c: Case,
+    program: &[u64; 48],
+    m: Machine,
+    n: usize,
+    ahead: bool,
+    asked: Asked,
+) -> usize
+    requires { ⌜ Leading c (now program) m n ahead asked ⌝ }
     ensures { λ r. ⌜ LowestAt c (wanted asked) (shown c m) (n - 1) r ⌝ }
 {
     let mut i: usize = 0;
     while i < 193 {
         let span = row_span(c, m, i);
         let to = span.to;
-        let j = first_in_reach(c, m, n, ahead, asked, span.from, to);
+        let j = first_in_reach(c, program, m, n, ahead, asked, span.from, to);
         if j < to {
             return j;
         }
@@ -175,21 +275,28 @@ fn put_step(out: &mut [u8], at: usize, t: Bytes)
 }
 
 // Lays the lowest schedule to an outcome into a cleared buffer and gives its length.
-fn lowest(c: Case, n: usize, ahead: bool, asked: Asked, out: &mut [u8]) -> usize
-    requires { ⌜ Wanting c n ahead asked (now out) ⌝ }
+fn lowest<'a, 'b>(
+    c: Case,
+    program: &'a [u64; 48],
+    n: usize,
+    ahead: bool,
+    asked: Asked,
+    out: &'b mut [u8],
+) -> usize
+    requires { ⌜ Wanting c (now program) n ahead asked (now out) ⌝ }
     ensures { λ r. ⌜ Laid (womm c) (wanted asked) stepBytes n 384 r (now (out .exit)) ⌝ }
 {
     let mut m = machine::start(c);
     let mut left = n;
     let mut at: usize = 0;
     while left > 0 {
-        let done = machine::finished(c, m);
+        let done = machine::finished(&c.counts, &m.places, &m.sets, c.procs);
         if done {
             return at;
         }
-        let j = lowest_step(c, m, left, ahead, asked);
+        let j = lowest_step(c, program, m, left, ahead, asked);
         put_step(out, at, bytes_at(c, m, j));
-        m = choices::take(c, m, j);
+        m = after_step(c, program, m, j);
         left -= 1;
         at += 4;
     }
@@ -203,12 +310,13 @@ pub fn settle(c: Case, n: usize, asked: Asked, out: &mut [u8]) -> Answer
 {
     records::clear(out);
     let ahead = choices::forward(c);
-    let r = within_reach(c, machine::start(c), n, ahead, asked);
+    let program = machine::program(c);
+    let r = within_reach(c, &program, machine::start(c), n, ahead, asked);
     if r.found {
         return Answer {
             code: 0,
             yes: true,
-            length: lowest(c, n, ahead, asked, out),
+            length: lowest(c, &program, n, ahead, asked, out),
             cut: false,
             position: 0,
         };

@@ -1,21 +1,22 @@
--- The sure step, the quiet read and the step that is taken. Assumes nothing.
+-- The sure step, the quiet read and the step at a position. Assumes nothing.
 use mathlib.Core.Path.{_≡_, refl, sym, ap, ap₂, subst, _∙_}
 use mathlib.Core.Logic.{inl, inr, ⊎-elim}
 use mathlib.Core.Bool.{Bool, true, false, _&&_, _||_, not, false≢true}
 use Prim.Native.Nat.{ℕ, _+_, _*_, _/_, _%_, _<_, _≤_}
 use native.Mathlib.Omega.{arith}
 use native.Mathlib.Decide.{decLt}
+use lib.Bits.{bitAnd}
 use lib.Dec.{eqb}
 use borrow.Author.Tests.{eqb-true, eq-eqb}
 use Rattle.words.specs.Small.{someBelow}
+use Rattle.words.specs.Sets.{has}
 use Rattle.words.proofs.Bools.{and-make, or-cases}
 use Rattle.cases.specs.declared.Case.{Case}
 use Rattle.rules.specs.Kinds.{reading}
 use Rattle.rules.specs.State.{State, kindOf}
-use Rattle.rules.specs.Issue.{issued}
-use Rattle.rules.specs.Commit.{committed}
-use Rattle.rules.specs.Step.{issue, commit, stepCode, after}
-use Rattle.rules.proofs.Accepted.{can-commit, after-issue, after-commit}
+use Rattle.rules.specs.Step.{issue, commit, stepCode}
+use Rattle.rules.proofs.Accepted.{can-commit}
+use Rattle.machine.specs.Fit.{Fine}
 use Rattle.sure.specs.Sure.{sureKind, roomy}
 use Rattle.sure.specs.Marked.{Alone}
 use Rattle.sure.specs.Dead.{Ignored, DeadRead}
@@ -23,11 +24,12 @@ use Rattle.sure.specs.Quiet.{ended, pending, quiet}
 use Rattle.sure.specs.Spent.{Key, taking, issuing, stepBy}
 use Rattle.spending.specs.Words.{keyAt, opens}
 use Rattle.choices.specs.Choice.{SureAt, QuietAt}
-use Rattle.choices.specs.Opening.{Queued, FirstOf, SureCommit, DeadAt, SettledRead}
+use Rattle.choices.specs.Finding.{SureCommit, DeadAt, Settled}
+use Rattle.openings.specs.Opening.{Queued, Leading, FirstOf}
 use Rattle.spending.proofs.Spends.{key-read, key-lone, key-issue}
 use Rattle.spending.proofs.Rests.{actionAt, sourceAt, key-taken}
-use Rattle.choices.proofs.Queued.{left-out}
-use Rattle.choices.proofs.Opens.{opens-accepts}
+use Rattle.openings.proofs.Queued.{lead-kind, lead-out}
+use Rattle.openings.proofs.Opens.{opens-accepts}
 
 -- sure commits
 
@@ -50,27 +52,24 @@ module _ (c : Case) (s : State) where
   pub no-sure : NoSure 0
   no-sure k h = absurd (omega arith)
 
-  module _ (n : ℕ) (N : NoSure n) where
-    next : (sureKind (kindOf (s .actions n)) ≡ true → stepCode c s (commit (s .actions n .proc) n 0) ≡ 0 → ⊥) → NoSure (n + 1)
-    next f k h p q =
-        elim (decLt k n) [
-          | yes l ↦ N k l p q
-          | no l ↦ let z : k ≡ n = omega arith in f (subst (λ (i : ℕ). sureKind (kindOf (s .actions i)) ≡ true) z p) (subst (λ (i : ℕ). stepCode c s (commit (s .actions i .proc) i 0) ≡ 0) z q)
-        ]
-
-    pub sure-refused : (b : Bool) → b ≡ eqb (stepCode c s (commit (s .actions n .proc) n 0)) 0 → b ≡ false → NoSure (n + 1)
-    sure-refused b e f = next (λ p q. absurd (false≢true (sym f ∙ e ∙ eq-eqb _ 0 q)))
-
-  -- up to the next that is queued
-  pub sure-over : c .procs ≤ 4 → (x n end r : ℕ) → Queued s sureKind x → FirstOf x n end r → NoSure n → NoSure r
-  sure-over few x n end r Q F N k h p q =
+  pub sure-refused : (n : ℕ) → NoSure n → (b : Bool) → b ≡ eqb (stepCode c s (commit (s .actions n .proc) n 0)) 0 → b ≡ false → NoSure (n + 1)
+  sure-refused n N b e f k h p q =
       elim (decLt k n) [
         | yes l ↦ N k l p q
-        | no l ↦ left-out c s few sureKind x Q k 0 p (F .skipped k (omega arith) h) q
+        | no l ↦ let z : k ≡ n = omega arith in absurd (false≢true (sym f ∙ e ∙ eq-eqb _ 0 (subst (λ (i : ℕ). stepCode c s (commit (s .actions i .proc) i 0) ≡ 0) z q)))
       ]
 
-  pub sure-here : (k : ℕ) (d : Bool) → k < 48 → sureKind (kindOf (s .actions k)) ≡ true → d ≡ eqb (stepCode c s (commit (s .actions k .proc) k 0)) 0 → d ≡ true → SureCommit c s k
-  sure-here k d h x q y = record { found = λ l. (eqb-true _ 0 (sym q ∙ y), x); none = λ l. absurd (omega arith) }
+  module _ (few : c .procs ≤ 4) (x y : ℕ) (Q : Queued s sureKind x) (L : Leading s y) (fine : (k : ℕ) → k < s .count → Fine (s .actions k .instr)) where
+    -- up to the next that is queued and may lead
+    pub sure-over : (n end r : ℕ) → FirstOf (bitAnd x y) n end r → NoSure n → NoSure r
+    sure-over n end r F N k h p q =
+        elim (decLt k n) [
+          | yes l ↦ N k l p q
+          | no l ↦ lead-out c s few sureKind x Q y L fine k 0 p (F .skipped k (omega arith) h) q
+        ]
+
+    pub sure-here : (k : ℕ) (d : Bool) → k < 48 → k < s .count → has (bitAnd x y) k ≡ true → d ≡ eqb (stepCode c s (commit (s .actions k .proc) k 0)) 0 → d ≡ true → SureCommit c s k
+    sure-here k d h l b q t = record { found = λ z. (eqb-true _ 0 (sym q ∙ t), lead-kind c s few sureKind x Q y L fine k l b); none = λ z. absurd (omega arith) }
 
   pub sure-nowhere : NoSure (s .count) → SureCommit c s 48
   sure-nowhere N = record { found = λ l. absurd (omega arith); none = λ l. N }
@@ -112,16 +111,16 @@ module _ (c : Case) (s : State) where
 
   -- the quiet read
 
-  pub quiet-none : QuietAt c s 48
-  quiet-none = record { found = λ l. absurd (omega arith) }
+  pub quiet-none : QuietAt c s 48 0
+  quiet-none = record { found = λ l. absurd (omega arith); some = λ l. absurd (omega arith); seen = λ l. absurd (omega arith) }
 
-  pub quiet-some : (k : ℕ) → ended c s ≡ true → (k < 48 → SettledRead c s k) → QuietAt c s k
+  pub quiet-some : (k sources : ℕ) → ended c s ≡ true → (k < 48 → Settled c s k sources) → QuietAt c s k sources
   unfolding quiet
-  quiet-some k e f = record { found = found }
+  quiet-some k sources e f = record { found = found; some = λ l. f l .some; seen = λ l. f l .seen }
     where
       found : k < 48 → ((reading (kindOf (s .actions k)) && (ended c s && not (someBelow (s .count) (λ j. pending (s .actions k .loc) (s .actions j))))) ≡ true) × ((e : ℕ) × (stepCode c s (stepBy s (taking k e)) ≡ 0))
       found l =
-          let r = f l in
+          let r = f l .read in
           let a = opens-accepts c s k (r .opened .0) l (r .opened .1) in
           (and-make _ _ (a .0) (and-make _ _ e (ap not (r .still))), (r .opened .0, a .1))
 
@@ -133,12 +132,6 @@ module _ (c : Case) (s : State) where
 
     pub commit-at : (p k e : ℕ) → j / 64 < 49 → k ≡ actionAt j → e ≡ sourceAt j → p ≡ s .actions k .proc → commit p k e ≡ stepBy s (keyAt j)
     commit-at p k e h x y z = rw (z, x, y) (ap (stepBy s) (sym (key-taken j h)))
-
-    pub issue-after : 49 ≤ j / 64 → issued c s (j % 64) ≡ after c s (stepBy s (keyAt j))
-    issue-after h = sym (after-issue c s (j % 64)) ∙ ap (after c s) (issue-at h)
-
-    pub commit-after : (p k e : ℕ) → commit p k e ≡ stepBy s (keyAt j) → committed c s p k e ≡ after c s (stepBy s (keyAt j))
-    commit-after p k e h = sym (after-commit c s p k e) ∙ ap (after c s) h
 
     -- the action of an accepted commit is issued
     pub there-at : (k : ℕ) → j / 64 < 49 → k ≡ actionAt j → stepCode c s (stepBy s (keyAt j)) ≡ 0 → k < s .count

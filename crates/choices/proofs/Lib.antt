@@ -1,4 +1,4 @@
-pub mod Queued
-pub mod Opens
 pub mod Next
+pub mod Fresh
+pub mod Pending
 pub mod Answers

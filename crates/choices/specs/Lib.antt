@@ -1,3 +1,3 @@
 pub mod Choice
-pub mod Opening
+pub mod Finding
 pub mod Given

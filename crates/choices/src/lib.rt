@@ -2,33 +2,34 @@
 use cases::Case;
 use cases::Instr;
 use machine::Entry;
-use machine::Machine;
 ghost use mathlib.Core.Path.{_≡_};
-ghost use mathlib.Core.Bool.{true, not, cond};
-ghost use mathlib.Core.List.{List};
-ghost use Prim.Native.Nat.{ℕ, _+_, _/_, _%_, _≤_, _<_};
-ghost use lib.Dec.{eqb, ltb};
-ghost use lib.ListN.{length, getD};
+ghost use mathlib.Core.Bool.{true, cond};
+ghost use Prim.Native.Nat.{ℕ, _/_, _%_, _≤_, _<_};
+ghost use lib.Dec.{ltb};
+ghost use lib.ListN.{getD};
 ghost use Rattle.words.specs.Small.{someBelow};
 ghost use Rattle.words.specs.Sets.{has as inSet};
 ghost use Rattle.cases.specs.declared.Case.{Case as TheCase};
 ghost use Rattle.cases.specs.Case.{countOf, instrAt};
-ghost use Rattle.rules.specs.Kinds.{reading};
 ghost use Rattle.rules.specs.State.{State};
-ghost use Rattle.rules.specs.Step.{commit, stepCode, after};
-ghost use Rattle.sure.specs.Sure.{backward, forward as isForward, sureKind};
+ghost use Rattle.sure.specs.Sure.{backward, forward as isForward};
 ghost use Rattle.sure.specs.Quiet.{ended as hasEnded, pending};
-ghost use Rattle.sure.specs.Spent.{stepBy};
-ghost use Rattle.orders.specs.Rows.{SetOf};
 ghost use Rattle.machine.specs.Shown.{placeOf, namesOf, shown, Acts};
 ghost use Rattle.machine.specs.Fit.{Fit};
 ghost use Rattle.machine.specs.Kept.{Kept};
 ghost use Rattle.machine.specs.Valid.{Valid};
-ghost use Rattle.machine.specs.Given.{Showing};
-ghost use Rattle.spending.specs.Words.{keyAt, opens};
+ghost use Rattle.machine.specs.Lent.{machineOf, Lent, Ending};
+ghost use Rattle.spending.specs.Words.{opens};
+ghost use Rattle.openings.specs.Given.{OfEntry, EntryIn, Entered, EntriesIn, Committing, ArraysIn, Issuing};
 ghost use Rattle.choices.specs.Choice.{SureAt, QuietAt, NextAt};
-ghost use Rattle.choices.specs.Opening.{readyRead, inQueue, Queued, FirstOf, Readless, FirstFresh, SureCommit, DeadAt, SettledRead};
-ghost use Rattle.choices.specs.Given.{Turning, Ending, OfEntry, EntryIn, Entered, EntriesIn, Committing, CommittingOne, ArraysIn, Naming, Word, Upto, Span, Scanning, Going, Taking};
+ghost use Rattle.choices.specs.Finding.{FirstFresh, Readless, SureCommit, DeadAt, SettledRead, Settled};
+ghost use Rattle.choices.specs.Given.{Turning, Naming, Span, Stretch, Scanning, Going, Sourcing};
+
+// A quiet read and its sources.
+pub struct Quiet {
+    pub read: usize,
+    pub sources: u64,
+}
 
 // Whether the instruction, at a place, may lead back to that place or before it.
 fn leads_back(i: Instr, place: usize) -> bool
@@ -73,253 +74,22 @@ pub fn forward(c: Case) -> bool
     !found
 }
 
-// Whether the entry, action k, is a read that may be committed from every visible item.
-fn read_ready<'a>(masks: &'a [u8; 4], sets: &'a [u64; 21], procs: u8, e: Entry, k: usize) -> bool
-    requires { ⌜ OfEntry procs e k ⌝ }
-    ensures { λ r. ⌜ ((c : TheCase) (s : State) (rows : List ℕ) → EntryIn c s (now (masks .entry)) rows (now (sets .entry)) procs e k → r ≡ readyRead c s k) ⌝ }
-{
-    let i = e.instr;
-    let q = rules::kind_of(i);
-    if (q != 1) | e.done {
-        return false;
-    }
-    let p = words::wide(e.proc);
-    if words::wide(procs) <= p {
-        return false;
-    }
-    if sights::held(sets, p, k, 1, e.loc) {
-        return false;
-    }
-    sights::known(masks, sets, e.first)
-}
-
-// The items that the commit of the entry, read k, may name; none of another action.
-fn sources<'a>(
-    masks: &'a [u8; 4],
-    rows: &'a [u64; 56],
-    sets: &'a [u64; 21],
-    procs: u8,
-    e: Entry,
-    k: usize,
-) -> u64
-    requires { ⌜ OfEntry procs e k ⌝ }
-    ensures { λ r. ⌜ ((c : TheCase) (s : State) → EntryIn c s (now (masks .entry)) (now (rows .entry)) (now (sets .entry)) procs e k → (i : ℕ) → inSet r i ≡ opens c s k i) ⌝ }
-{
-    if !read_ready(masks, sets, procs, e, k) {
-        return 0;
-    }
-    let l = words::wide(e.loc);
-    sights::visible_items(rows, sets, l, 8 + k)
-}
-
-// The queued items.
-fn queued_items(sets: &[u64; 21]) -> u64
-    ensures { λ r. ⌜ ((c : TheCase) (s : State) → Kept c s (now (sets .entry)) → (k : ℕ) → k < s .count → inSet r (8 + k) ≡ inQueue (s .actions k)) ⌝ }
-{
-    sets[19] | (sets[18] | (sets[17] | sets[16]))
-}
-
-// The queued reads.
-fn queued_reads(sets: &[u64; 21]) -> u64
-    ensures { λ r. ⌜ ((c : TheCase) (s : State) → Kept c s (now (sets .entry)) → Queued s reading r) ⌝ }
-{
-    let items = queued_items(sets);
-    (items & sets[9]) >> 8
-}
-
-// The queued actions that are no reads.
-fn queued_others(sets: &[u64; 21]) -> u64
-    ensures { λ r. ⌜ ((c : TheCase) (s : State) → Kept c s (now (sets .entry)) → Queued s (λ q. not (reading q)) r) ⌝ }
-{
-    let items = queued_items(sets);
-    orders::minus(items, sets[9]) >> 8
-}
-
-// The queued actions of a sure kind: neither reads nor acquires.
-fn queued_sure(sets: &[u64; 21]) -> u64
-    ensures { λ r. ⌜ ((c : TheCase) (s : State) → Kept c s (now (sets .entry)) → Queued s sureKind r) ⌝ }
-{
-    let items = queued_items(sets);
-    orders::minus(items, sets[9] | sets[14]) >> 8
-}
-
-// The first number of the set from k on, below `end`, else `end`.
-fn first_of(word: u64, k: usize, end: usize) -> usize
-    requires { ⌜ Upto k end ⌝ }
-    ensures { λ r. ⌜ FirstOf word k end r ⌝ }
-{
-    let r = k + sights::lowest(word >> k);
-    if end <= r {
-        return end;
-    }
-    r
-}
-
-// Whether the commit of action k, from item 0, is accepted.
-fn may_commit<'a>(
-    masks: &'a [u8; 4],
-    presets: &'a [u16; 32],
-    acts: &'a [u64; 48],
-    rows: &'a [u64; 56],
-    sets: &'a [u64; 21],
-    holders: &'a [u8; 8],
-    procs: u8,
-    locs: u8,
-    issued: usize,
-    k: usize,
-) -> bool
-    requires { ⌜ CommittingOne issued procs (now holders) k ⌝ }
-    ensures { λ r. ⌜ ((c : TheCase) (s : State) → ArraysIn c s (now (masks .entry)) (now (presets .entry)) procs locs issued (now (acts .entry)) (now (rows .entry)) (now (sets .entry)) (now (holders .entry)) → r ≡ eqb (stepCode c s (commit (s .actions k .proc) k 0)) 0) ⌝ }
-{
-    let e = machine::entry_at(acts, k);
-    let p = words::wide(e.proc);
-    if words::wide(procs) <= p {
-        return false;
-    }
-    committing::commit_code(
-        masks,
-        presets,
-        acts,
-        rows,
-        sets,
-        holders,
-        locs,
-        issued,
-        p,
-        k,
-        0,
-    )
-        == 0
-}
-
-// The actions that are no reads and whose commits are accepted.
-fn commits<'a>(
-    masks: &'a [u8; 4],
-    presets: &'a [u16; 32],
-    acts: &'a [u64; 48],
-    rows: &'a [u64; 56],
-    sets: &'a [u64; 21],
-    holders: &'a [u8; 8],
-    procs: u8,
-    locs: u8,
-    issued: usize,
-) -> u64
-    requires { ⌜ Committing issued procs (now holders) ⌝ }
-    ensures { λ r. ⌜ ((c : TheCase) (s : State) → ArraysIn c s (now (masks .entry)) (now (presets .entry)) procs locs issued (now (acts .entry)) (now (rows .entry)) (now (sets .entry)) (now (holders .entry)) → SetOf issued (opens c s 48) r) ⌝ }
-{
-    let others = queued_others(sets);
-    let mut items: u64 = 0;
-    let mut k = first_of(others, 0, issued);
-    while k < issued {
-        let test = may_commit(
-            masks,
-            presets,
-            acts,
-            rows,
-            sets,
-            holders,
-            procs,
-            locs,
-            issued,
-            k,
-        );
-        items = orders::with(items, k, test);
-        k = first_of(others, k + 1, issued);
-    }
-    items
-}
-
-// Whether processor p may issue.
-fn may_issue<'a>(
-    c: Case,
-    places: &'a [u8; 4],
-    names: &'a [u8; 32],
-    acts: &'a [u64; 48],
-    issued: usize,
-    p: usize,
-) -> bool
-    requires { ⌜ Fit c × (issued ≤ 48) × (length (now names) ≡ 32) × (p < 4) ⌝ }
-    ensures { λ r. ⌜ ((s : State) → Acts c issued (now (acts .entry)) s → s .places ≡ (λ q. placeOf (getD (now (places .entry)) q 0)) → s .names ≡ namesOf c (now (names .entry)) → r ≡ opens c s 49 p) ⌝ }
-{
-    if words::wide(c.procs) <= p {
-        return false;
-    }
-    issuing::issue_code(c, places, names, acts, issued, p) == 0
-}
-
-// The processors that may issue.
-fn issues<'a>(
-    c: Case,
-    places: &'a [u8; 4],
-    names: &'a [u8; 32],
-    acts: &'a [u64; 48],
-    issued: usize,
-) -> u64
-    requires { ⌜ Fit c × (issued ≤ 48) × (length (now names) ≡ 32) ⌝ }
-    ensures { λ r. ⌜ ((s : State) → Acts c issued (now (acts .entry)) s → s .places ≡ (λ q. placeOf (getD (now (places .entry)) q 0)) → s .names ≡ namesOf c (now (names .entry)) → SetOf 4 (opens c s 49) r) ⌝ }
-{
-    let mut items: u64 = 0;
-    let mut p: usize = 0;
-    while p < 4 {
-        let test = may_issue(c, places, names, acts, issued, p);
-        items = orders::with(items, p, test);
-        p += 1;
-    }
-    items
-}
-
-// The accepted steps of word w: a read's, or those of the other commits.
-fn open_word<'a>(
-    masks: &'a [u8; 4],
-    presets: &'a [u16; 32],
-    acts: &'a [u64; 48],
-    rows: &'a [u64; 56],
-    sets: &'a [u64; 21],
-    holders: &'a [u8; 8],
-    procs: u8,
-    locs: u8,
-    issued: usize,
-    w: usize,
-) -> u64
-    requires { ⌜ Word issued procs (now holders) w ⌝ }
-    ensures { λ r. ⌜ ((c : TheCase) (s : State) → ArraysIn c s (now (masks .entry)) (now (presets .entry)) procs locs issued (now (acts .entry)) (now (rows .entry)) (now (sets .entry)) (now (holders .entry)) → (e : ℕ) → e < 64 → inSet r e ≡ opens c s w e) ⌝ }
-{
-    if w < 48 {
-        if w < issued {
-            let e = machine::entry_at(acts, w);
-            return sources(masks, rows, sets, procs, e, w);
-        }
-        return 0;
-    }
-    commits(
-        masks,
-        presets,
-        acts,
-        rows,
-        sets,
-        holders,
-        procs,
-        locs,
-        issued,
-    )
-}
-
-// The first position from j on, before `end`, whose bit is set and that is not spent, else `end`.
+// The first position from j on, before `end`, whose bit is set and that is not spent, else `end`. All are of one word.
 fn first_fresh(word: u64, spent: &[u64; 50], j: usize, end: usize) -> usize
-    requires { ⌜ Span j end ⌝ }
+    requires { ⌜ Stretch j end ⌝ }
     ensures { λ r. ⌜ FirstFresh word (now (spent .entry)) j end r ⌝ }
 {
-    if word == 0 {
-        return end;
-    }
-    let mut i = j;
-    while i < end {
-        if words::has(word, i % 64) {
-            if !spending::is_spent(spent, i) {
-                return i;
-            }
+    let start = 64 * (j / 64);
+    let mut rest = (word >> (j % 64)) << (j % 64);
+    while 0 < rest {
+        let i = start + orders::lowest(rest);
+        if end <= i {
+            return end;
         }
-        i += 1;
+        if !spending::is_spent(spent, i) {
+            return i;
+        }
+        rest = orders::others(rest);
     }
     end
 }
@@ -345,7 +115,7 @@ fn next_word(reads: u64, j: usize, to: usize) -> usize
     if 48 <= w {
         return j;
     }
-    let start = 64 * first_of(reads, w, 48);
+    let start = 64 * openings::first_of(reads, w, 48);
     if start <= j {
         return j;
     }
@@ -356,32 +126,60 @@ fn next_word(reads: u64, j: usize, to: usize) -> usize
 }
 
 // The first position from `at` on whose step is accepted and neither spent nor needless, or `to` where there is none before it.
-pub fn next_step(c: Case, m: Machine, spent: &[u64; 50], at: usize, to: usize) -> usize
-    requires { ⌜ Scanning c m (now spent) at to ⌝ }
-    ensures { λ r. ⌜ NextAt c (shown c m) (now (spent .entry)) at to r ⌝ }
+pub fn next_step<'a>(
+    program: &'a [u64; 48],
+    counts: &'a [u8; 4],
+    masks: &'a [u8; 4],
+    presets: &'a [u16; 32],
+    memory: &'a [u16; 8],
+    places: &'a [u8; 4],
+    names: &'a [u8; 32],
+    holders: &'a [u8; 8],
+    acts: &'a [u64; 48],
+    rows: &'a [u64; 56],
+    sets: &'a [u64; 21],
+    procs: u8,
+    locs: u8,
+    issued: usize,
+    spent: &'a [u64; 50],
+    at: usize,
+    to: usize,
+) -> usize
+    requires { ⌜ Scanning (now counts) (now names) (now holders) procs issued (now spent) at to ⌝ }
+    ensures { λ r. ⌜ ((c : TheCase) → Lent c (now (program .entry)) (now (counts .entry)) (now (masks .entry)) (now (presets .entry)) procs locs → c .memory ≡ now (memory .entry) → Valid c (machineOf issued (now (places .entry)) (now (names .entry)) (now (holders .entry)) (now (acts .entry)) (now (rows .entry)) (now (sets .entry))) → NextAt c (shown c (machineOf issued (now (places .entry)) (now (names .entry)) (now (holders .entry)) (now (acts .entry)) (now (rows .entry)) (now (sets .entry)))) (now (spent .entry)) at to r) ⌝ }
 {
-    let issued = m.issued;
-    let reads = queued_reads(&m.sets);
+    let reads = openings::queued_reads(sets);
     let mut j = next_word(reads, at, to);
     while j < to {
         if 3136 <= j {
-            let word = issues(c, &m.places, &m.names, &m.acts, issued);
+            let word = openings::issues(
+                program,
+                counts,
+                masks,
+                presets,
+                places,
+                names,
+                acts,
+                procs,
+                locs,
+                issued,
+            );
             return first_fresh(word, spent, j, to);
         }
         let end = word_end(j, to);
-        let word = open_word(
-            &c.masks,
-            &c.presets,
-            &m.acts,
-            &m.rows,
-            &m.sets,
-            &m.holders,
-            c.procs,
-            c.locs,
+        let word = openings::open_word(
+            masks,
+            presets,
+            acts,
+            rows,
+            sets,
+            holders,
+            procs,
+            locs,
             issued,
             j / 64,
         );
-        let left = needless::unechoed(&c.memory, &m.acts, issued, spent, word, j / 64);
+        let left = needless::unechoed(memory, acts, issued, spent, word, j / 64);
         let r = first_fresh(left, spent, j, end);
         if r < end {
             return r;
@@ -406,10 +204,10 @@ fn sure_commit<'a>(
     requires { ⌜ Committing issued procs (now holders) ⌝ }
     ensures { λ r. ⌜ ((c : TheCase) (s : State) → ArraysIn c s (now (masks .entry)) (now (presets .entry)) procs locs issued (now (acts .entry)) (now (rows .entry)) (now (sets .entry)) (now (holders .entry)) → SureCommit c s r) ⌝ }
 {
-    let sure = queued_sure(sets);
-    let mut k = first_of(sure, 0, issued);
+    let sure = openings::queued_sure(sets) & openings::leading(sets);
+    let mut k = openings::first_of(sure, 0, issued);
     while k < issued {
-        if may_commit(
+        if openings::may_commit(
             masks,
             presets,
             acts,
@@ -423,25 +221,42 @@ fn sure_commit<'a>(
         ) {
             return k;
         }
-        k = first_of(sure, k + 1, issued);
+        k = openings::first_of(sure, k + 1, issued);
     }
     48
 }
 
 // The first processor that may issue, else 4.
 fn issuer<'a>(
-    c: Case,
+    program: &'a [u64; 48],
+    counts: &'a [u8; 4],
+    masks: &'a [u8; 4],
+    presets: &'a [u16; 32],
     places: &'a [u8; 4],
     names: &'a [u8; 32],
     acts: &'a [u64; 48],
+    procs: u8,
+    locs: u8,
     issued: usize,
 ) -> usize
-    requires { ⌜ Fit c × (issued ≤ 48) × (length (now names) ≡ 32) ⌝ }
-    ensures { λ r. ⌜ ((s : State) → Acts c issued (now (acts .entry)) s → s .places ≡ (λ q. placeOf (getD (now (places .entry)) q 0)) → s .names ≡ namesOf c (now (names .entry)) → r < 4 → opens c s 49 r ≡ true) ⌝ }
+    requires { ⌜ Issuing (now counts) (now names) procs issued ⌝ }
+    ensures { λ r. ⌜ ((c : TheCase) (s : State) → Lent c (now (program .entry)) (now (counts .entry)) (now (masks .entry)) (now (presets .entry)) procs locs → Acts c issued (now (acts .entry)) s → s .places ≡ (λ q. placeOf (getD (now (places .entry)) q 0)) → s .names ≡ namesOf c (now (names .entry)) → r < 4 → opens c s 49 r ≡ true) ⌝ }
 {
     let mut p: usize = 0;
     while p < 4 {
-        if may_issue(c, places, names, acts, issued, p) {
+        if openings::may_issue(
+            program,
+            counts,
+            masks,
+            presets,
+            places,
+            names,
+            acts,
+            procs,
+            locs,
+            issued,
+            p,
+        ) {
             return p;
         }
         p += 1;
@@ -462,60 +277,79 @@ fn first_dead<'a>(
     requires { ⌜ Naming issued procs (now names) ⌝ }
     ensures { λ r. ⌜ ((c : TheCase) (s : State) → EntriesIn c s (now (masks .entry)) (now (rows .entry)) (now (sets .entry)) procs issued (now (acts .entry)) → s .names ≡ namesOf c (now (names .entry)) → r < 3200 → DeadAt c s r) ⌝ }
 {
-    let reads = queued_reads(sets);
+    let reads = openings::queued_reads(sets);
     if reads == 0 {
         return 3200;
     }
     let inner = needless::ignored(names, acts, issued);
-    let mut k = first_of(reads, 0, issued);
+    let mut k = openings::first_of(reads, 0, issued);
     while k < issued {
         if words::has(inner, k) {
             let a = machine::entry_at(acts, k);
-            let e = sights::lowest(sources(masks, rows, sets, procs, a, k));
+            let e = orders::lowest(openings::sources(masks, rows, sets, procs, a, k));
             if e < 64 {
                 return 64 * k + e;
             }
         }
-        k = first_of(reads, k + 1, issued);
+        k = openings::first_of(reads, k + 1, issued);
     }
     3200
 }
 
 // The position of an accepted step that may be taken alone, with n steps to go: a sure one, any issue once the cut mark is set, or the commit of a dead read; 3200 where none was found.
-pub fn sure_step(c: Case, m: Machine, n: usize, ahead: bool, marked: bool) -> usize
-    requires { ⌜ Going c m n ahead ⌝ }
-    ensures { λ r. ⌜ SureAt c marked n (shown c m) r ⌝ }
+pub fn sure_step<'a>(
+    program: &'a [u64; 48],
+    counts: &'a [u8; 4],
+    masks: &'a [u8; 4],
+    presets: &'a [u16; 32],
+    places: &'a [u8; 4],
+    names: &'a [u8; 32],
+    holders: &'a [u8; 8],
+    acts: &'a [u64; 48],
+    rows: &'a [u64; 56],
+    sets: &'a [u64; 21],
+    procs: u8,
+    locs: u8,
+    issued: usize,
+    n: usize,
+    ahead: bool,
+    marked: bool,
+) -> usize
+    requires { ⌜ Going (now counts) (now names) (now holders) procs issued n ⌝ }
+    ensures { λ r. ⌜ ((c : TheCase) → Lent c (now (program .entry)) (now (counts .entry)) (now (masks .entry)) (now (presets .entry)) procs locs → ahead ≡ isForward c → Valid c (machineOf issued (now (places .entry)) (now (names .entry)) (now (holders .entry)) (now (acts .entry)) (now (rows .entry)) (now (sets .entry))) → SureAt c marked n (shown c (machineOf issued (now (places .entry)) (now (names .entry)) (now (holders .entry)) (now (acts .entry)) (now (rows .entry)) (now (sets .entry)))) r) ⌝ }
 {
-    let issued = m.issued;
     let k = sure_commit(
-        &c.masks,
-        &c.presets,
-        &m.acts,
-        &m.rows,
-        &m.sets,
-        &m.holders,
-        c.procs,
-        c.locs,
+        masks,
+        presets,
+        acts,
+        rows,
+        sets,
+        holders,
+        procs,
+        locs,
         issued,
     );
     if k < 48 {
         return 3072 + k;
     }
     if marked | (ahead | (issued + n <= 48)) {
-        let p = issuer(c, &m.places, &m.names, &m.acts, issued);
+        let p = issuer(
+            program,
+            counts,
+            masks,
+            presets,
+            places,
+            names,
+            acts,
+            procs,
+            locs,
+            issued,
+        );
         if p < 4 {
             return 3136 + p;
         }
     }
-    first_dead(
-        &c.masks,
-        &m.names,
-        &m.rows,
-        &m.sets,
-        &m.acts,
-        c.procs,
-        issued,
-    )
+    first_dead(masks, names, rows, sets, acts, procs, issued)
 }
 
 // Whether every place counter is at its processor's count.
@@ -542,26 +376,26 @@ fn write_pending(sets: &[u64; 21], l: usize) -> bool
     orders::minus(sets[l], sets[20]) != 0
 }
 
-// Whether the entry, read k, has a source, and no write to its location is queued.
-fn settled_read<'a>(
+// The sources of the entry, read k, where no write to its location is queued; else nothing.
+fn settled_sources<'a>(
     masks: &'a [u8; 4],
     rows: &'a [u64; 56],
     sets: &'a [u64; 21],
     procs: u8,
     e: Entry,
     k: usize,
-) -> bool
+) -> u64
     requires { ⌜ OfEntry procs e k ⌝ }
-    ensures { λ r. ⌜ ((c : TheCase) (s : State) → EntryIn c s (now (masks .entry)) (now (rows .entry)) (now (sets .entry)) procs e k → r ≡ true → SettledRead c s k) ⌝ }
+    ensures { λ r. ⌜ ((c : TheCase) (s : State) → EntryIn c s (now (masks .entry)) (now (rows .entry)) (now (sets .entry)) procs e k → (r ≡ 0 → ⊥) → SettledRead c s k × ((i : ℕ) → inSet r i ≡ opens c s k i)) ⌝ }
 {
     let l = words::wide(e.loc);
     if write_pending(sets, l) {
-        return false;
+        return 0;
     }
-    sources(masks, rows, sets, procs, e, k) != 0
+    openings::sources(masks, rows, sets, procs, e, k)
 }
 
-// The first read with a source to whose location no write is queued, else 48.
+// The first read with a source to whose location no write is queued, with its sources, else 48 with none.
 fn first_settled<'a>(
     masks: &'a [u8; 4],
     rows: &'a [u64; 56],
@@ -569,32 +403,64 @@ fn first_settled<'a>(
     acts: &'a [u64; 48],
     procs: u8,
     issued: usize,
-) -> usize
+) -> Quiet
     requires { ⌜ Entered issued procs ⌝ }
-    ensures { λ r. ⌜ (r ≤ 48) × ((c : TheCase) (s : State) → EntriesIn c s (now (masks .entry)) (now (rows .entry)) (now (sets .entry)) procs issued (now (acts .entry)) → r < 48 → SettledRead c s r) ⌝ }
+    ensures { λ r. ⌜ (r .read ≤ 48) × ((c : TheCase) (s : State) → EntriesIn c s (now (masks .entry)) (now (rows .entry)) (now (sets .entry)) procs issued (now (acts .entry)) → r .read < 48 → Settled c s (r .read) (r .sources)) ⌝ }
 {
-    let reads = queued_reads(sets);
-    let mut k = first_of(reads, 0, issued);
+    let reads = openings::queued_reads(sets);
+    let mut k = openings::first_of(reads, 0, issued);
     while k < issued {
         let e = machine::entry_at(acts, k);
-        if settled_read(masks, rows, sets, procs, e, k) {
-            return k;
+        let sources = settled_sources(masks, rows, sets, procs, e, k);
+        if sources != 0 {
+            return Quiet { read: k, sources };
         }
-        k = first_of(reads, k + 1, issued);
+        k = openings::first_of(reads, k + 1, issued);
     }
-    48
+    Quiet {
+        read: 48,
+        sources: 0,
+    }
 }
 
-// The number of a quiet read that is accepted from some item, or 48 where there is none.
-pub fn quiet_read(c: Case, m: Machine) -> usize
-    requires { ⌜ Valid c m ⌝ }
-    ensures { λ r. ⌜ QuietAt c (shown c m) r × (r ≤ 48) ⌝ }
+// A quiet read that is accepted from some item, with its sources, or 48 where there is none.
+pub fn quiet_read<'a>(
+    counts: &'a [u8; 4],
+    masks: &'a [u8; 4],
+    places: &'a [u8; 4],
+    acts: &'a [u64; 48],
+    rows: &'a [u64; 56],
+    sets: &'a [u64; 21],
+    procs: u8,
+    issued: usize,
+) -> Quiet
+    requires { ⌜ Entered issued procs ⌝ }
+    ensures { λ r. ⌜ (r .read ≤ 48) × ((c : TheCase) (s : State) → Ending c s (now (counts .entry)) (now (places .entry)) procs → EntriesIn c s (now (masks .entry)) (now (rows .entry)) (now (sets .entry)) procs issued (now (acts .entry)) → QuietAt c s (r .read) (r .sources)) ⌝ }
 {
-    if !ended(&c.counts, &m.places, c.procs) {
-        return 48;
+    if !ended(counts, places, procs) {
+        return Quiet {
+            read: 48,
+            sources: 0,
+        };
     }
-    let issued = m.issued;
-    first_settled(&c.masks, &m.rows, &m.sets, &m.acts, c.procs, issued)
+    first_settled(masks, rows, sets, acts, procs, issued)
+}
+
+// The first position from `at` on, before `to`, of a source of the read that they are all of which is neither spent nor needless, else `to`.
+pub fn next_source<'a>(
+    memory: &'a [u16; 8],
+    acts: &'a [u64; 48],
+    issued: usize,
+    spent: &'a [u64; 50],
+    sources: u64,
+    at: usize,
+    to: usize,
+) -> usize
+    requires { ⌜ Sourcing issued (now spent) at to ⌝ }
+    ensures { λ r. ⌜ ((c : TheCase) (s : State) → c .memory ≡ now (memory .entry) → Acts c issued (now (acts .entry)) s → ((i : ℕ) → inSet sources i ≡ opens c s (at / 64) i) → NextAt c s (now (spent .entry)) at to r) ⌝ }
+{
+    let left = needless::unechoed(memory, acts, issued, spent, sources, at / 64);
+    first_fresh(left, spent, at, to)
 }
 
 // The item that the step at position j names.
@@ -605,19 +471,4 @@ pub fn source_at(j: usize) -> usize
         return j % 64;
     }
     0
-}
-
-// The machine after the step at position j, which is accepted.
-pub fn take(c: Case, m: Machine, j: usize) -> Machine
-    requires { ⌜ Taking c m j ⌝ }
-    ensures { λ r. ⌜ Showing c (after c (shown c m) (stepBy (shown c m) (keyAt j))) r ⌝ }
-{
-    if 49 <= j / 64 {
-        return issuing::issue(c, m, j % 64);
-    }
-    let k = spending::action_at(j);
-    let e = machine::entry_at(&m.acts, k);
-    let p = words::wide(e.proc);
-    let src = source_at(j);
-    committing::commit(c, m, p, k, src)
 }

@@ -5,10 +5,13 @@ use Prim.Native.Nat.{ℕ, _≤_, _<_}
 use lib.ListN.{length, getD}
 use Rattle.cases.specs.declared.Case.{Case}
 use Rattle.rules.specs.State.{State}
+use Rattle.rules.specs.Step.{commit}
 use Rattle.machine.specs.declared.Entry.{Entry}
 use Rattle.machine.specs.Shown.{holderOf, shownEntry, ordersOf}
 use Rattle.machine.specs.Kept.{Kept}
 use Rattle.machine.specs.Valid.{ValidEntry}
+use Rattle.machine.specs.Given.{Accepted}
+use Rattle.machine.specs.Lent.{machineOf}
 use Rattle.sights.specs.Sights.{Names}
 use Rattle.committing.specs.Committed.{Entries}
 
@@ -60,3 +63,9 @@ pub record Keeping (sets : List ℕ) (p k : ℕ) : Type 0 where
   pub sets-long : length sets ≡ 21
   pub proc : p < 4
   pub action : k < 48
+
+-- Arrays of a machine that accepts the commit of action k of processor p.
+pub record Committing (places holders acts rows sets : List ℕ) (n p k src : ℕ) : Type 0 where
+  pub case : Case
+  pub names : List ℕ
+  pub accepted : Accepted case (machineOf n places names holders acts rows sets) (commit p k src)

@@ -1,13 +1,11 @@
 // Commit: the code that it gets, and the machine after it.
-use cases::Case;
 use cases::Expr;
 use cases::Instr;
 use machine::Entry;
-use machine::Machine;
 ghost use mathlib.Core.Path.{_≡_};
 ghost use mathlib.Core.Bool.{true, _&&_, not};
-ghost use mathlib.Core.List.{[], _∷_};
-ghost use Prim.Native.Nat.{_+_, _≤_, _<_};
+ghost use mathlib.Core.List.{List, [], _∷_};
+ghost use Prim.Native.Nat.{ℕ, _+_, _≤_, _<_};
 ghost use lib.ListN.{length, getD, set};
 ghost use Rattle.words.specs.Small.{is, isNone, orZero, any};
 ghost use Rattle.words.specs.Refusals.{_when_, firstOf};
@@ -19,9 +17,10 @@ ghost use Rattle.rules.specs.Step.{commit as commitStep};
 ghost use Rattle.orders.specs.Rows.{SetOf};
 ghost use Rattle.machine.specs.Shown.{holderOf, nameOf, shownEntry, shown, Presets, Acts};
 ghost use Rattle.machine.specs.Given.{Accepted, Showing};
+ghost use Rattle.machine.specs.Lent.{machineOf};
 ghost use Rattle.sights.specs.Sights.{Names, Sight};
 ghost use Rattle.committing.specs.Committed.{releases, Acquired, KeptBy, restRefusals, resultBy, branchTo, placeBy, lockedBy};
-ghost use Rattle.committing.specs.Given.{Asking, AskingOne, Arrays, Shows, Locking, Acquiring, Keeping};
+ghost use Rattle.committing.specs.Given.{Asking, AskingOne, Arrays, Shows, Locking, Acquiring, Keeping, Committing};
 
 // How many registers an instruction reads.
 pub fn arity(i: Instr) -> u8
@@ -262,6 +261,15 @@ pub fn locked_by(kind: u8, h: [u8; 8], x: usize, p: usize) -> [u8; 8]
     h
 }
 
+// A commit of a kind by processor p changes who holds location x.
+fn lock(holders: &mut [u8; 8], kind: u8, x: usize, p: usize)
+    requires { ⌜ Locking (now holders) p ⌝ }
+    ensures { λ _. ⌜ now (holders .exit) ≡ lockedBy kind (now (holders .entry)) x p ⌝ }
+{
+    let h = *holders;
+    *holders = locked_by(kind, h, x, p);
+}
+
 // Whether an entry is a committed release of location x.
 fn frees(e: Entry, x: usize) -> bool
     ensures { λ r. ⌜ ((c : TheCase) → r ≡ (releasing (kindOf (shownEntry c e)) && is x (shownEntry c e .result))) ⌝ }
@@ -318,33 +326,39 @@ fn settle_sets(sets: &mut [u64; 21], p: usize, k: usize)
     sets[20] = bit | given;
 }
 
-// The machine after the commit of action k of processor p, which nothing refuses.
-pub fn commit(c: Case, m: Machine, p: usize, k: usize, src: usize) -> Machine
-    requires { ⌜ Accepted c m (commitStep p k src) ⌝ }
-    ensures { λ r. ⌜ Showing c (committedOf c (shown c m) p k src) r ⌝ }
+// Takes the commit of action k of processor p, which nothing refuses; a read names the source item.
+pub fn commit<'a, 'b>(
+    masks: &'a [u8; 4],
+    presets: &'a [u16; 32],
+    memory: &'a [u16; 8],
+    places: &'b mut [u8; 4],
+    holders: &'b mut [u8; 8],
+    acts: &'b mut [u64; 48],
+    rows: &'b mut [u64; 56],
+    sets: &'b mut [u64; 21],
+    issued: usize,
+    p: usize,
+    k: usize,
+    src: usize,
+)
+    requires { ⌜ Committing (now places) (now holders) (now acts) (now rows) (now sets) issued p k src ⌝ }
+    ensures { λ _. ⌜ ((c : TheCase) (names : List ℕ) → Presets c (now (masks .entry)) (now (presets .entry)) → c .memory ≡ now (memory .entry) → Accepted c (machineOf issued (now (places .entry)) names (now (holders .entry)) (now (acts .entry)) (now (rows .entry)) (now (sets .entry))) (commitStep p k src) → Showing c (committedOf c (shown c (machineOf issued (now (places .entry)) names (now (holders .entry)) (now (acts .entry)) (now (rows .entry)) (now (sets .entry)))) p k src) (machineOf issued (now (places .exit)) names (now (holders .exit)) (now (acts .exit)) (now (rows .exit)) (now (sets .exit)))) ⌝ }
 {
-    let issued = m.issued;
-    let e = machine::entry_at(&m.acts, k);
+    let e = machine::entry_at(acts, k);
     let i = e.instr;
     let kind = rules::kind_of(i);
-    let v = machine::or_zero(machine::item_value(&c.memory, &m.acts, issued, src));
-    let x = input(&c.masks, &c.presets, &m.acts, issued, e.first);
-    let y = input(&c.masks, &c.presets, &m.acts, issued, e.second);
+    let v = machine::or_zero(machine::item_value(memory, acts, issued, src));
+    let x = input(masks, presets, acts, issued, e.first);
+    let y = input(masks, presets, acts, issued, e.second);
     let result = result_by(v, x, y, i);
-    let at = place_by(kind, m.places[p], x, e.place, i);
     let w = x as usize;
-    let holders = m.holders;
-    let locks = locked_by(kind, holders, w, p);
-    let word = machine::packed(Entry {
+    order_acquire(rows, acts, issued, kind, w, 8 + k);
+    settle_sets(sets, p, k);
+    lock(holders, kind, w, p);
+    places[p] = place_by(kind, places[p], x, e.place, i);
+    acts[k] = machine::packed(Entry {
         done: true,
         result,
         ..e
     });
-    let mut n = m;
-    order_acquire(&mut n.rows, &m.acts, issued, kind, w, 8 + k);
-    settle_sets(&mut n.sets, p, k);
-    n.acts[k] = word;
-    n.places[p] = at;
-    n.holders = locks;
-    n
 }

@@ -4,7 +4,7 @@ use mathlib.Core.Logic.{⊎-elim}
 use mathlib.Core.Bool.{Bool, true, false, cond, _&&_, false≢true}
 use mathlib.Core.List.{List, [], _∷_, map}
 use mathlib.Core.Option.{Option, none}
-use Prim.Native.Nat.{ℕ, _+_, _*_, _%_, _≤_, _<_}
+use Prim.Native.Nat.{ℕ, zero, suc, _+_, _*_, _/_, _%_, _≤_, _<_}
 use native.Mathlib.Omega.{arith}
 use native.Mathlib.Decide.{decLt}
 use lib.Dec.{leb}
@@ -17,9 +17,11 @@ use Rattle.cases.specs.declared.Instr.{Instr}
 use Rattle.cases.specs.declared.Instr.the-variants.{Empty, Read, Write, Local, Branch, Goto, Acquire, Release}
 use Rattle.cases.specs.declared.Expr.{Expr}
 use Rattle.cases.specs.declared.Expr.the-variants.{Constant, Sum, Difference, Equal}
+use Rattle.cases.specs.Instruction.{instrOf}
 use Rattle.rules.specs.Kinds.{reads, kind, accesses}
 use Rattle.rules.specs.State.{State, Name, start, valueOf, kindOf}
 use Rattle.rules.specs.Issue.{here, next, address, newAction}
+use Rattle.machine.specs.Word.{instrFrom}
 use Rattle.machine.specs.Shown.{nameOf, namesOf, inputsOf, shownEntry}
 use Rattle.machine.specs.Fit.{Fine, FineExpr}
 use Rattle.issuing.specs.Issued.{Low, fresh}
@@ -29,7 +31,7 @@ pub name-low : (names : List ℕ) (n : ℕ) → length names ≡ 32 → Low name
 name-low names n long low = elim (decLt n 32) [ yes h ↦ low n h | no h ↦ let q : getD names n 0 ≡ 0 = List·getD-eq-default names 0 (omega (arith, long)) in omega arith ]
 
 -- at most two registers, each below 8
-abbrev Regs : List ℕ → Type 0
+abbrev pub Regs : List ℕ → Type 0
 Regs [] = Unit {0}
 Regs (a ∷ []) = a < 8
 Regs (a ∷ b ∷ []) = (a < 8) × (b < 8)
@@ -51,6 +53,24 @@ fine-reads (Goto l) h = tt
 fine-reads (Acquire a) h = h
 fine-reads (Release a) h = h
 
+op-reads : (op d a b k : ℕ) → a < 8 → b < 8 → Regs (reads (instrOf op d a b k))
+op-reads zero d a b k la lb = tt
+op-reads (suc zero) d a b k la lb = la
+op-reads (suc (suc zero)) d a b k la lb = (la, lb)
+op-reads (suc (suc (suc zero))) d a b k la lb = tt
+op-reads (suc (suc (suc (suc zero)))) d a b k la lb = (la, lb)
+op-reads (suc (suc (suc (suc (suc zero))))) d a b k la lb = (la, lb)
+op-reads (suc (suc (suc (suc (suc (suc zero)))))) d a b k la lb = (la, lb)
+op-reads (suc (suc (suc (suc (suc (suc (suc zero))))))) d a b k la lb = la
+op-reads (suc (suc (suc (suc (suc (suc (suc (suc zero)))))))) d a b k la lb = tt
+op-reads (suc (suc (suc (suc (suc (suc (suc (suc (suc zero))))))))) d a b k la lb = la
+op-reads (suc (suc (suc (suc (suc (suc (suc (suc (suc (suc zero)))))))))) d a b k la lb = la
+op-reads (suc (suc (suc (suc (suc (suc (suc (suc (suc (suc (suc op))))))))))) d a b k la lb = tt
+
+-- as those that an instruction reads are, whatever number it is of
+pub from-reads : (n : ℕ) → Regs (reads (instrFrom n))
+from-reads n = op-reads (n % 16) _ (n / 16 / 8 % 8) (n / 16 / 8 / 8 % 8) _ (omega arith) (omega arith)
+
 module _ (c : Case) (s : State) (p : ℕ) (names : List ℕ) (low : p < 4) (same : s .names ≡ namesOf c names) where
   name-is : (r : ℕ) → r < 8 → nameOf c (getD names (8 * p + r) 0) ≡ s .names p r
   name-is r h = sym (ap (λ (f : ℕ → ℕ → Name). f p r) same ∙ rw (lt-ltb p 4 low, lt-ltb r 8 h))
@@ -62,9 +82,9 @@ module _ (c : Case) (s : State) (p : ℕ) (names : List ℕ) (low : p < 4) (same
   inputs-list (a ∷ b ∷ d ∷ more) h = absurd h
 
   -- the address register of a read or a write
-  address-is : (i : Instr) → Fine i → accesses (kind i) ≡ true → nameOf c (getD names (8 * p + getD (reads i) 0 0) 0) ≡ getD (map (s .names p) (reads i)) 0 (start none)
-  address-is Empty f h = absurd f
-  address-is (Read d a) f h = name-is a (f .1)
+  address-is : (i : Instr) → Regs (reads i) → accesses (kind i) ≡ true → nameOf c (getD names (8 * p + getD (reads i) 0 0) 0) ≡ getD (map (s .names p) (reads i)) 0 (start none)
+  address-is Empty f h = absurd (false≢true h)
+  address-is (Read d a) f h = name-is a f
   address-is (Write a b) f h = name-is a (f .0)
   address-is (Local d e) f h = absurd (false≢true h)
   address-is (Branch a l) f h = absurd (false≢true h)
@@ -73,29 +93,29 @@ module _ (c : Case) (s : State) (p : ℕ) (names : List ℕ) (low : p < 4) (same
   address-is (Release a) f h = absurd (false≢true h)
 
   -- nothing else looks at it
-  address-only : {A : Type 0} (f : Option ℕ → A) (d : A) (i : Instr) → Fine i
+  address-only : {A : Type 0} (f : Option ℕ → A) (d : A) (i : Instr) → Regs (reads i)
       → cond (accesses (kind i)) (f (valueOf s (nameOf c (getD names (8 * p + getD (reads i) 0 0) 0)))) d ≡ cond (accesses (kind i)) (f (valueOf s (getD (map (s .names p) (reads i)) 0 (start none)))) d
-  address-only f d i fine = ⊎-elim (λ k. rw k (ap (λ (n : Name). f (valueOf s n)) (address-is i fine k))) (λ k. rw k) (decide (accesses (kind i)))
+  address-only f d i regs = ⊎-elim (λ k. rw k (ap (λ (n : Name). f (valueOf s n)) (address-is i regs k))) (λ k. rw k) (decide (accesses (kind i)))
 
   and-cond : (a b : Bool) → (a && b) ≡ cond a b false
   and-cond true b = refl
   and-cond false b = refl
 
-  pub address-test : (f : Option ℕ → Bool) (i : Instr) → Fine i
+  pub address-test : (f : Option ℕ → Bool) (i : Instr) → Regs (reads i)
       → (accesses (kind i) && f (valueOf s (nameOf c (getD names (8 * p + getD (reads i) 0 0) 0)))) ≡ (accesses (kind i) && f (valueOf s (getD (map (s .names p) (reads i)) 0 (start none))))
-  address-test f i fine = and-cond (accesses (kind i)) _ ∙ address-only f false i fine ∙ sym (and-cond (accesses (kind i)) _)
+  address-test f i regs = and-cond (accesses (kind i)) _ ∙ address-only f false i regs ∙ sym (and-cond (accesses (kind i)) _)
 
   pub entry-fresh : (i : Instr) (place q x y l : ℕ) → Fine i → q ≡ p → x ≡ getD names (8 * p + getD (reads i) 0 0) 0 → y ≡ getD names (8 * p + getD (reads i) 1 0) 0
-      → l ≡ cond (accesses (kind i)) (orZero (valueOf s (nameOf c x)) % 256) 0
+      → l ≡ cond (accesses (kind i)) (orZero (valueOf s (nameOf c x)) % 8) 0
       → shownEntry c (record { instr = i; proc = q; place = place; first = x; second = y; loc = l; done = false; result = 0 }) ≡ fresh s p place i
   entry-fresh i place q x y l fine hq hx hy hl =
       let u : inputsOf c (reads i) x y ≡ map (s .names p) (reads i) = rw (hx, hy) (inputs-list (reads i) (fine-reads i fine)) in
-      let w = hl ∙ ap (λ (n : ℕ). cond (accesses (kind i)) (orZero (valueOf s (nameOf c n)) % 256) 0) hx ∙ address-only (λ o. orZero o % 256) 0 i fine in
+      let w = hl ∙ ap (λ (n : ℕ). cond (accesses (kind i)) (orZero (valueOf s (nameOf c n)) % 8) 0) hx ∙ address-only (λ o. orZero o % 8) 0 i (fine-reads i fine) in
       λ j. record { proc = hq j; place = place; instr = i; inputs = u j; loc = w j; result = none }
 
 -- an address that is below the number of locations
 module _ (c : Case) (s : State) (p : ℕ) (few : c .locs ≤ 8) (low : (accesses (kind (next c s p)) && leb (c .locs) (orZero (address c s p))) ≡ false) where
-  small : (b : Bool) (x : ℕ) → (b && leb (c .locs) x) ≡ false → (cond b (x % 256) 0 ≡ cond b x 0) × (cond b x 0 < 8)
+  small : (b : Bool) (x : ℕ) → (b && leb (c .locs) x) ≡ false → (cond b (x % 8) 0 ≡ cond b x 0) × (cond b x 0 < 8)
   small true x h = let q : x < c .locs = leb-false (c .locs) x h in (omega arith, omega arith)
   small false x h = (refl, omega arith)
 

@@ -28,15 +28,17 @@ use Rattle.orders.specs.Rows.{orderOf}
 use Rattle.orders.proofs.Reached.{ltb-next}
 use Rattle.machine.specs.declared.Entry.{Entry}
 use Rattle.machine.specs.declared.Machine.{Machine}
-use Rattle.machine.specs.Word.{entryOf, Packable}
-use Rattle.machine.specs.Shown.{shownEntry, shownOne, shown, nameOf, namesOf, placeOf}
+use Rattle.machine.specs.Word.{instrFrom, entryOf, Packable}
+use Rattle.machine.specs.Shown.{shownEntry, shownOne, shown, nameOf, namesOf, placeOf, Presets}
 use Rattle.machine.specs.Fit.{Fine}
 use Rattle.machine.specs.Kept.{Kept}
 use Rattle.machine.specs.Valid.{Valid, ValidEntry, ValidPlace}
 use Rattle.machine.specs.Given.{Accepted, Showing}
+use Rattle.machine.specs.Lent.{machineOf, Program}
 use Rattle.machine.proofs.Ordered.{after-shows, after-reached}
 use Rattle.machine.proofs.Stores.{set-put, set-all, actions-set, place-some}
-use Rattle.issuing.specs.Issued.{Low, assignedBy, placeBy, fresh, after, Ordered, KeptBy, Entering}
+use Rattle.issuing.specs.Issued.{Low, assignedBy, placeBy, fresh, Bound, after, Ordered, KeptBy}
+use Rattle.issuing.specs.Given.{Renamed}
 use Rattle.issuing.proofs.Binding.{fresh-is, new-low, new-present}
 
 next-place : (n : ℕ) → n < 12 → (placeOf (n + 1) ≡ some (suc n)) × ValidPlace (n + 1)
@@ -129,9 +131,6 @@ names-none c names p k d i f q le = put-same (namesOf c names) p ∙ sym (ap (λ
 pub names-stored : (names : List ℕ) (p k d v : ℕ) → Low names → length names ≡ 32 → p < 4 → k < 48 → d < 8 → v ≡ 32 + k → Low (set names (8 * p + d) v)
 names-stored names p k d v low long hp hk hd hv = set-all (λ (n : ℕ). n < 80) names 0 32 (8 * p + d) v (omega arith) (omega arith) (λ q h n. low q h)
 
-abbrev grown : Machine → ℕ → ℕ → List ℕ → ℕ → List ℕ → List ℕ → Machine
-grown m p place names w rows sets = record { issued = m .issued + 1; places = set (m .places) p place; names = names; holders = m .holders; acts = set (m .acts) (m .issued) w; rows = rows; sets = sets }
-
 -- the state with the action a of processor p issued
 abbrev entered : Case → Machine → ℕ → Action → OneState
 entered c m p a =
@@ -150,15 +149,21 @@ unfolding issued issuedOne afterOne
 entered-is c m p = refl
 
 -- an accepted issue
-module _ (c : Case) (m : Machine) (p : ℕ) (ok : Accepted c m (issue p)) where
+module _ {c : Case} {m : Machine} {p : ℕ} (ok : Accepted c m (issue p)) where
   abbrev at : ℕ
   at = getD (m .places) p 0
 
-  can : CanIssue c (shown c m) p
-  can = can-issue c (shown c m) p (ok .fits)
+  abbrev s : State
+  s = shown c m
+
+  abbrev v : Valid c m
+  v = ok .valid
+
+  can : CanIssue c s p
+  can = can-issue c s p (ok .fits)
 
   pub issue-low : p < 4
-  issue-low = omega (arith, can .proc, ok .valid .fit .procs)
+  issue-low = omega (arith, can .proc, v .fit .procs)
 
   pub issue-room : m .issued < 48
   issue-room = leb-false 48 (m .issued) (can .room)
@@ -170,73 +175,78 @@ module _ (c : Case) (m : Machine) (p : ℕ) (ok : Accepted c m (issue p)) where
       defined true h = absurd (false≢true (sym h))
       defined false h = refl
 
-  pub issue-inside : at < countOf c p
-  issue-inside = leb-false (countOf c p) at (subst (λ (o : Option ℕ). leb (countOf c p) (orZero o) ≡ false) there (can .inside))
+  inside : at < countOf c p
+  inside = leb-false (countOf c p) at (subst (λ (o : Option ℕ). leb (countOf c p) (orZero o) ≡ false) there (can .inside))
 
-  pub issue-fine : Fine (instrAt c p at)
-  issue-fine = ok .valid .fit .fine p at issue-low issue-inside
+  pub issue-place : at < 12
+  issue-place = omega (arith, inside, v .fit .counts p)
 
-  pub issue-new : (e : Entry) → shownEntry c e ≡ fresh (shown c m) p at (instrAt c p at) → shownEntry c e ≡ newAction c (shown c m) p
-  issue-new e h =
-      h
-      ∙ ap (λ (o : Option ℕ). fresh (shown c m) p (orZero o) (instrAt c p (orZero o))) (sym there)
-      ∙ fresh-is c (shown c m) p (ok .valid .fit .locs) (can .low)
+  pub issue-packs : {masks presets : List ℕ} {i : Instr} {e : Entry} → Bound masks presets (m .names) (m .acts) (m .issued) p at i e → Packable e
+  issue-packs b = b .packs (v .names) (omega (arith, issue-place))
 
-  pub issue-entry : (e : Entry) → shownEntry c e ≡ fresh (shown c m) p at (instrAt c p at) → ValidEntry c e
-  issue-entry e h = record {
-    fine = subst Fine (sym (ap (λ (a : Action). a .instr) h)) issue-fine;
-    place = omega (arith, ap (λ (a : Action). a .place) h, issue-inside, ok .valid .fit .counts p);
-    loc = omega (arith, ap (λ (a : Action). a .loc) (issue-new e h), new-low c (shown c m) p (ok .valid .fit .locs) (can .low));
-    present = λ a. subst (λ (l : ℕ). l < c .locs) (sym (ap (λ (x : Action). x .loc) (issue-new e h))) (new-present c (shown c m) p (ok .valid .fit .locs) (can .low) (subst (λ (x : Action). accesses (kindOf x) ≡ true) (issue-new e h) a));
-  }
+  -- of the instruction i of a program
+  module _ {program : List ℕ} {i : Instr} {n : ℕ} (coded : Program c program) (hn : n ≡ at) (from : i ≡ instrFrom (getD program (12 * p + n) 0 % 8388608)) where
+    instr-is : i ≡ instrAt c p at
+    instr-is = from ∙ ap (λ (x : ℕ). instrFrom (getD program (12 * p + x) 0 % 8388608)) hn ∙ coded .instr p at issue-low inside
 
-  pub issue-packable : (e : Entry) → shownEntry c e ≡ fresh (shown c m) p at (instrAt c p at) → e .first < 128 → e .second < 128 → Packable e
-  issue-packable e h x y =
-      let v = issue-entry e h in record { fine = v .fine; proc = omega (arith, ap (λ (a : Action). a .proc) h, issue-low); place = omega (arith, v .place); first = x; second = y; loc = v .loc }
+    pub issue-fine : Fine i
+    issue-fine = subst Fine (sym instr-is) (v .fit .fine p at issue-low inside)
 
-module _ (c : Case) (m : Machine) (p place : ℕ) (names : List ℕ) (e : Entry) (w : ℕ) (rows sets : List ℕ) (E : Entering c m p e names) (holds : entryOf w ≡ e) (hp : place ≡ placeBy (e .instr) (e .place)) (o : Ordered (m .issued) (m .acts) p e (m .rows) rows) (k : KeptBy (m .issued) e (m .sets) sets) where
-  abbrev v : Valid c m
-  v = E .accepted .valid
+    fresh-new : fresh s p at i ≡ newAction c s p
+    fresh-new = ap (fresh s p at) instr-is ∙ ap (λ (o : Option ℕ). fresh s p (orZero o) (instrAt c p (orZero o))) (sym there) ∙ fresh-is c s p (v .fit .locs) (can .low)
 
-  abbrev low : p < 4
-  low = issue-low c m p (E .accepted)
+    abbrev at-place : (placeOf (placeBy i at) ≡ placeAfter i at) × ValidPlace (placeBy i at)
+    at-place = place-by i at issue-fine issue-place
 
-  abbrev room : m .issued < 48
-  room = issue-room c m p (E .accepted)
+    -- with all that it stores
+    module _ {masks presets names rows sets : List ℕ} {e : Entry} {place : ℕ} (w : ℕ) (starts : Presets c masks presets) (b : Bound masks presets (m .names) (m .acts) (m .issued) p at i e) (hp : place ≡ placeBy i at) (holds : entryOf w ≡ e) (r : Renamed (m .names) p (m .issued) i names) (o : Ordered (m .issued) (m .acts) p e (m .rows) rows) (k : KeptBy (m .issued) e (m .sets) sets) where
+      h : shownEntry c e ≡ fresh s p at i
+      h = b .shows c s starts (record { count = refl; actions = refl }) refl
 
-  abbrev at-place : (placeOf (placeBy (e .instr) (e .place)) ≡ placeAfter (e .instr) (e .place)) × ValidPlace (placeBy (e .instr) (e .place))
-  at-place = place-by (e .instr) (e .place) (E .entry .fine) (E .entry .place)
+      new : shownEntry c e ≡ newAction c s p
+      new = h ∙ fresh-new
 
-  -- the one order is kept as the rules with one order say
-  grown-one : shownOne c (grown m p place names w rows sets) ≡ afterOne c (shownOne c m) (issue p)
-  grown-one =
-      let n = add-one (m .issued) in
-      let u = actions-set c (m .issued) (m .issued + 1) (m .issued) (m .acts) w e holds (omega arith) (omega (arith, v .acts-long, room)) (λ k h. ltb-next k (m .issued) h) in
-      let y = set-put placeOf (m .places) 0 p place (placeAfter (e .instr) (e .place)) (omega (arith, v .places-long, low)) (ap placeOf hp ∙ at-place .0) in
-      let j = o .joins c (shown c m) (record { count = refl; actions = refl }) in
-      let h = E .renames in
-      let whole : shownOne c (grown m p place names w rows sets) ≡ entered c m p (shownEntry c e) = λ i. record { count = n i; actions = u i; places = y i; names = h i; holders = shown c m .holders; order = j i } in
-      whole ∙ ap (entered c m p) (E .new) ∙ entered-is c m p
+      entry : ValidEntry c e
+      entry = record {
+        fine = subst Fine (sym (ap (λ (a : Action). a .instr) h)) issue-fine;
+        place = omega (arith, ap (λ (a : Action). a .place) h, issue-place);
+        loc = omega (arith, ap (λ (a : Action). a .loc) new, new-low c s p (v .fit .locs) (can .low));
+        present = λ a. subst (λ (l : ℕ). l < c .locs) (sym (ap (λ (x : Action). x .loc) new)) (new-present c s p (v .fit .locs) (can .low) (subst (λ (x : Action). accesses (kindOf x) ≡ true) new a));
+      }
 
-  grown-shows : shown c (grown m p place names w rows sets) ≡ issued c (shown c m) p
-  unfolding afterStep
-  grown-shows = after-shows c m (grown m p place names w rows sets) (issue p) (v .reached) (E .accepted .fits) grown-one
+      abbrev grown : Machine
+      grown = machineOf (m .issued + 1) (set (m .places) p place) names (m .holders) (set (m .acts) (m .issued) w) rows sets
 
-  pub grown-is : Showing c (issued c (shown c m) p) (grown m p place names w rows sets)
-  grown-is = record {
-    shows = grown-shows;
-    valid = record {
-      fit = v .fit;
-      issued = omega (arith, room);
-      acts-long = length-set (m .acts) (m .issued) w ∙ v .acts-long;
-      places-long = length-set (m .places) p place ∙ v .places-long;
-      names-long = E .names-long;
-      holders-long = v .holders-long;
-      rows-long = o .size;
-      places = set-all ValidPlace (m .places) 0 4 p place (omega (arith, v .places-long, low)) (subst ValidPlace (sym hp) (at-place .1)) (λ q h n. v .places q h);
-      names = E .names-low;
-      entries = set-all (λ (x : ℕ). ValidEntry c (entryOf x)) (m .acts) 0 (m .issued + 1) (m .issued) w (omega (arith, v .acts-long, room)) (subst (ValidEntry c) (sym holds) (E .entry)) (λ q h n. v .entries q (omega arith));
-      kept = subst (λ (s : State). Kept c s sets) (sym grown-shows) (k .keeps c (shown c m) p refl (E .new) (v .kept));
-      reached = after-reached c m (grown m p place names w rows sets) (issue p) (v .reached) (E .accepted .fits) grown-one;
-    };
-  }
+      -- the one order is kept as the rules with one order say
+      grown-one : shownOne c grown ≡ afterOne c (shownOne c m) (issue p)
+      grown-one =
+          let n = add-one (m .issued) in
+          let u = actions-set c (m .issued) (m .issued + 1) (m .issued) (m .acts) w e holds (omega arith) (omega (arith, v .acts-long, issue-room)) (λ k h. ltb-next k (m .issued) h) ∙ ap (put (s .actions) (m .issued)) h in
+          let y = set-put placeOf (m .places) 0 p place (placeAfter i at) (omega (arith, v .places-long, issue-low)) (ap placeOf hp ∙ at-place .0) in
+          let j = o .joins c s (record { count = refl; actions = refl }) ∙ ap (λ (a : Action). joinedIf (hasItem a) (orderOf (m .rows)) (8 + m .issued) (8 + m .issued) (after p a s)) h in
+          let x = r .shows c in
+          let whole : shownOne c grown ≡ entered c m p (fresh s p at i) = λ i. record { count = n i; actions = u i; places = y i; names = x i; holders = s .holders; order = j i } in
+          whole ∙ ap (entered c m p) fresh-new ∙ entered-is c m p
+
+      grown-shows : shown c grown ≡ issued c s p
+      unfolding afterStep
+      grown-shows = after-shows c m grown (issue p) (v .reached) (ok .fits) grown-one
+
+      pub grown-is : Showing c (issued c s p) grown
+      grown-is = record {
+        shows = grown-shows;
+        valid = record {
+          fit = v .fit;
+          issued = omega (arith, issue-room);
+          acts-long = length-set (m .acts) (m .issued) w ∙ v .acts-long;
+          places-long = length-set (m .places) p place ∙ v .places-long;
+          names-long = r .long;
+          holders-long = v .holders-long;
+          rows-long = o .size;
+          places = set-all ValidPlace (m .places) 0 4 p place (omega (arith, v .places-long, issue-low)) (subst ValidPlace (sym hp) (at-place .1)) (λ q h n. v .places q h);
+          names = r .low;
+          entries = set-all (λ (x : ℕ). ValidEntry c (entryOf x)) (m .acts) 0 (m .issued + 1) (m .issued) w (omega (arith, v .acts-long, issue-room)) (subst (ValidEntry c) (sym holds) entry) (λ q h n. v .entries q (omega arith));
+          kept = subst (λ (s : State). Kept c s sets) (sym grown-shows) (k .keeps c s p refl new (v .kept));
+          reached = after-reached c m grown (issue p) (v .reached) (ok .fits) grown-one;
+        };
+      }

@@ -2,16 +2,19 @@
 use mathlib.Core.Path.{_≡_}
 use mathlib.Core.List.{List}
 use Prim.Native.Nat.{ℕ, _≤_, _<_}
-use lib.ListN.{length}
+use lib.ListN.{length, getD}
 use Rattle.words.specs.Small.{put}
 use Rattle.cases.specs.declared.Case.{Case}
 use Rattle.cases.specs.declared.Instr.{Instr}
 use Rattle.rules.specs.Kinds.{assigns}
 use Rattle.rules.specs.State.{given}
 use Rattle.rules.specs.Issue.{renamed}
+use Rattle.rules.specs.Step.{issue}
 use Rattle.machine.specs.declared.Entry.{Entry}
 use Rattle.machine.specs.Shown.{namesOf}
-use Rattle.machine.specs.Fit.{Fine, Fit}
+use Rattle.machine.specs.Fit.{Fine}
+use Rattle.machine.specs.Given.{Accepted}
+use Rattle.machine.specs.Lent.{machineOf, Program}
 use Rattle.issuing.specs.Issued.{Low}
 
 -- Room for a new entry, its location, and the rows at their number.
@@ -34,10 +37,10 @@ pub record Binding (n : ℕ) (names : List ℕ) (p : ℕ) (i : Instr) : Type 0 w
   pub proc : p < 4
   pub fine : Fine i
 
--- A case, a processor that it can have, and the names at their size.
-pub record Asking (c : Case) (n : ℕ) (names : List ℕ) (p : ℕ) : Type 0 where
-  pub fit : Fit c
+-- A processor and counts that a case can have, and the names at their size.
+pub record Asking (n : ℕ) (counts names : List ℕ) (p : ℕ) : Type 0 where
   pub issued : n ≤ 48
+  pub counted : getD counts p 0 ≤ 12
   pub names-long : length names ≡ 32
   pub proc : p < 4
 
@@ -54,3 +57,10 @@ pub record Renamed (names : List ℕ) (p k : ℕ) (i : Instr) (r : List ℕ) : T
   pub long : length r ≡ 32
   pub low : Low r
   pub shows : (c : Case) → namesOf c r ≡ put (namesOf c names) p (renamed (namesOf c names p) (assigns i) (given k))
+
+-- Arrays of a case's program and of a machine that accepts an issue of processor p.
+pub record Issuing (program places names acts rows sets : List ℕ) (n p : ℕ) : Type 0 where
+  pub case : Case
+  pub holders : List ℕ
+  pub coded : Program case program
+  pub accepted : Accepted case (machineOf n places names holders acts rows sets) (issue p)

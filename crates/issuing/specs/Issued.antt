@@ -6,24 +6,20 @@ use mathlib.Core.Option.{none}
 use Prim.Native.Nat.{ℕ, _+_, _%_, _<_}
 use lib.Dec.{eqb}
 use lib.ListN.{length, getD}
-use Rattle.words.specs.Small.{orZero, put}
+use Rattle.words.specs.Small.{orZero}
 use Rattle.cases.specs.declared.Case.{Case}
 use Rattle.cases.specs.declared.Instr.{Instr}
 use Rattle.cases.specs.declared.Instr.the-variants.{Empty, Read, Write, Local, Branch, Goto, Acquire, Release}
-use Rattle.rules.specs.Kinds.{kind, accesses, reads, assigns}
+use Rattle.rules.specs.Kinds.{kind, accesses, reads}
 use Rattle.rules.specs.Order.{joinedIf}
-use Rattle.rules.specs.State.{State, Action, start, given, valueOf, itemIs, standsAt}
-use Rattle.rules.specs.Issue.{renamed, newAction, issued}
-use Rattle.rules.specs.Step.{issue}
+use Rattle.rules.specs.State.{State, Action, start, valueOf, itemIs, standsAt}
+use Rattle.rules.specs.Issue.{newAction, issued}
 use Rattle.oneorder.specs.OneOrder.{hasItem}
 use Rattle.orders.specs.Rows.{orderOf}
 use Rattle.machine.specs.declared.Entry.{Entry}
-use Rattle.machine.specs.declared.Machine.{Machine}
 use Rattle.machine.specs.Word.{Packable}
-use Rattle.machine.specs.Shown.{namesOf, shown, shownEntry, Presets, Acts}
+use Rattle.machine.specs.Shown.{namesOf, shownEntry, Presets, Acts}
 use Rattle.machine.specs.Kept.{Kept}
-use Rattle.machine.specs.Valid.{ValidEntry}
-use Rattle.machine.specs.Given.{Accepted}
 
 -- Each of the names is of a register or of one of 48 actions.
 abbrev pub Low : List ℕ → Type 0
@@ -59,14 +55,13 @@ fresh s p place i =
       place = place;
       instr = i;
       inputs = map (s .names p) (reads i);
-      loc = cond (accesses (kind i)) (orZero (valueOf s (getD (map (s .names p) (reads i)) 0 (start none))) % 256) 0;
+      loc = cond (accesses (kind i)) (orZero (valueOf s (getD (map (s .names p) (reads i)) 0 (start none))) % 8) 0;
       result = none;
     }
 
--- r is a new entry of instruction i of processor p, at a place, its registers bound to names that a word can hold.
+-- r is a new entry of instruction i of processor p, at a place, its registers bound; a word can hold it.
 pub record Bound (masks presets names acts : List ℕ) (n p place : ℕ) (i : Instr) (r : Entry) : Type 0 where
-  pub first : Low names → r .first < 128
-  pub second : Low names → r .second < 128
+  pub packs : Low names → place < 16 → Packable r
   pub shows : (c : Case) (s : State) → Presets c masks presets → Acts c n acts s → s .names ≡ namesOf c names → shownEntry c r ≡ fresh s p place i
 
 -- The items that that of a new action of processor p stands after: the initial writes of the locations where it stands, all earlier items of p.
@@ -81,13 +76,3 @@ pub record Ordered (n : ℕ) (acts : List ℕ) (p : ℕ) (e : Entry) (old new : 
 -- The sets once the item of a new entry e, action n, has joined them: they have what they should again, of the state with e issued.
 pub record KeptBy (n : ℕ) (e : Entry) (old new : List ℕ) : Type 0 where
   pub keeps : (c : Case) (s : State) (p : ℕ) → s .count ≡ n → shownEntry c e ≡ newAction c s p → Kept c s old → Kept c (issued c s p) new
-
--- e is the action of an issue of processor p that nothing refuses, with the names after it.
-pub record Entering (c : Case) (m : Machine) (p : ℕ) (e : Entry) (names : List ℕ) : Type 0 where
-  pub accepted : Accepted c m (issue p)
-  pub new : shownEntry c e ≡ newAction c (shown c m) p
-  pub entry : ValidEntry c e
-  pub packable : Packable e
-  pub names-long : length names ≡ 32
-  pub names-low : Low names
-  pub renames : namesOf c names ≡ put (namesOf c (m .names)) p (renamed (namesOf c (m .names) p) (assigns (e .instr)) (given (m .issued)))

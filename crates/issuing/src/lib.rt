@@ -1,13 +1,11 @@
 // Issue: the code that it gets, and the machine after it.
-use cases::Case;
 use cases::Expr;
 use cases::Instr;
 use machine::Entry;
-use machine::Machine;
 use machine::Value;
 ghost use mathlib.Core.Path.{_≡_};
 ghost use mathlib.Core.Bool.{_&&_, cond};
-ghost use mathlib.Core.List.{[], _∷_};
+ghost use mathlib.Core.List.{List, [], _∷_};
 ghost use Prim.Native.Nat.{ℕ, _+_, _%_, _≤_, _<_};
 ghost use lib.Dec.{eqb, leb};
 ghost use lib.ListN.{length, getD};
@@ -22,8 +20,9 @@ ghost use Rattle.oneorder.specs.OneOrder.{hasItem};
 ghost use Rattle.orders.specs.Rows.{SetOf};
 ghost use Rattle.machine.specs.Shown.{nameOf, namesOf, placeOf, shownValue, shownEntry, shown, Presets, Acts};
 ghost use Rattle.machine.specs.Given.{Accepted, Showing};
-ghost use Rattle.issuing.specs.Issued.{assignedBy, placeBy, after, Bound, Ordered, KeptBy, Entering};
-ghost use Rattle.issuing.specs.Given.{Joining, Keeping, Binding, Asking, Renaming, Renamed};
+ghost use Rattle.machine.specs.Lent.{machineOf, Program, Lent};
+ghost use Rattle.issuing.specs.Issued.{assignedBy, placeBy, after, Bound, Ordered, KeptBy};
+ghost use Rattle.issuing.specs.Given.{Joining, Keeping, Binding, Asking, Renaming, Renamed, Issuing};
 
 // Whether the entry has an item in the order.
 fn has_item(e: Entry) -> bool
@@ -182,12 +181,12 @@ fn location<'a>(
     first: u8,
 ) -> u8
     requires { ⌜ issued ≤ 48 ⌝ }
-    ensures { λ r. ⌜ ((c : TheCase) (s : State) → Presets c (now (masks .entry)) (now (presets .entry)) → Acts c issued (now (acts .entry)) s → r ≡ cond (accesses (kind i)) (orZero (valueOf s (nameOf c first)) % 256) 0) ⌝ }
+    ensures { λ r. ⌜ (r < 8) × ((c : TheCase) (s : State) → Presets c (now (masks .entry)) (now (presets .entry)) → Acts c issued (now (acts .entry)) s → r ≡ cond (accesses (kind i)) (orZero (valueOf s (nameOf c first)) % 8) 0) ⌝ }
 {
     let k = rules::kind_of(i);
     if (k == 1) | (k == 2) {
         let x = machine::or_zero(machine::named(masks, presets, acts, issued, first));
-        return (x % 256) as u8;
+        return (x % 8) as u8;
     }
     0
 }
@@ -241,45 +240,47 @@ fn address_code(i: Instr, v: Value, locs: u8) -> u8
 
 // The code that an issue of processor p gets.
 pub fn issue_code<'a>(
-    c: Case,
+    program: &'a [u64; 48],
+    counts: &'a [u8; 4],
+    masks: &'a [u8; 4],
+    presets: &'a [u16; 32],
     places: &'a [u8; 4],
     names: &'a [u8; 32],
     acts: &'a [u64; 48],
+    procs: u8,
+    locs: u8,
     issued: usize,
     p: usize,
 ) -> u8
-    requires { ⌜ Asking c issued (now names) p ⌝ }
-    ensures { λ r. ⌜ ((s : State) → Acts c issued (now (acts .entry)) s → s .places p ≡ placeOf (getD (now (places .entry)) p 0) → s .names ≡ namesOf c (now (names .entry)) → r ≡ firstOf (issueRefusals c s p)) ⌝ }
+    requires { ⌜ Asking issued (now counts) (now names) p ⌝ }
+    ensures { λ r. ⌜ ((c : TheCase) (s : State) → Lent c (now (program .entry)) (now (counts .entry)) (now (masks .entry)) (now (presets .entry)) procs locs → Acts c issued (now (acts .entry)) s → s .places p ≡ placeOf (getD (now (places .entry)) p 0) → s .names ≡ namesOf c (now (names .entry)) → r ≡ firstOf (issueRefusals c s p)) ⌝ }
 {
     let place = places[p];
     if place == 255 {
         return 21;
     }
-    if c.counts[p] <= place {
+    if counts[p] <= place {
         return 22;
     }
     if 48 <= issued {
         return 23;
     }
-    let s = c.code[12 * p + words::wide(place)];
-    let i = s.instr;
+    let i = machine::instr_at(program, 12 * p + words::wide(place));
     let a = words::wide(first_read(i));
     let name = name_at(names, 8 * p + a);
-    let v = machine::named(&c.masks, &c.presets, acts, issued, name);
-    address_code(i, v, c.locs)
+    let v = machine::named(masks, presets, acts, issued, name);
+    address_code(i, v, locs)
 }
 
-// The names once action k of processor p, of instruction i, has its register renamed.
-fn renamed(names: [u8; 32], p: usize, i: Instr, k: usize) -> [u8; 32]
-    requires { ⌜ Renaming names p k i ⌝ }
-    ensures { λ r. ⌜ Renamed names p k i r ⌝ }
+// The register that instruction i assigns is renamed: it stands for what action k of processor p gives.
+fn rename(names: &mut [u8; 32], p: usize, i: Instr, k: usize)
+    requires { ⌜ Renaming (now names) p k i ⌝ }
+    ensures { λ _. ⌜ Renamed (now (names .entry)) p k i (now (names .exit)) ⌝ }
 {
     let d = words::wide(assigned(i));
-    let mut n = names;
     if d < 8 {
-        n[8 * p + d] = ((32 + k) % 256) as u8;
+        names[8 * p + d] = ((32 + k) % 256) as u8;
     }
-    n
 }
 
 // The item of entry e, the new action k, joins the sets that it is of.
@@ -303,36 +304,29 @@ fn join_sets(sets: &mut [u64; 21], k: usize, e: Entry)
     sets[20] = given;
 }
 
-// Enters e, the action of an issue of processor p that nothing refuses; the names are those after it.
-fn enter(c: Case, m: Machine, p: usize, e: Entry, names: [u8; 32]) -> Machine
-    requires { ⌜ Entering c m p e names ⌝ }
-    ensures { λ r. ⌜ Showing c (issuedOf c (shown c m) p) r ⌝ }
+// Takes an issue of processor p that nothing refuses: the action is entered as number `issued`. The registers are bound to the names before the one assigned is renamed.
+pub fn issue<'a, 'b>(
+    program: &'a [u64; 48],
+    masks: &'a [u8; 4],
+    presets: &'a [u16; 32],
+    places: &'b mut [u8; 4],
+    names: &'b mut [u8; 32],
+    acts: &'b mut [u64; 48],
+    rows: &'b mut [u64; 56],
+    sets: &'b mut [u64; 21],
+    issued: usize,
+    p: usize,
+)
+    requires { ⌜ Issuing (now program) (now places) (now names) (now acts) (now rows) (now sets) issued p ⌝ }
+    ensures { λ _. ⌜ ((c : TheCase) (holders : List ℕ) → Program c (now (program .entry)) → Presets c (now (masks .entry)) (now (presets .entry)) → Accepted c (machineOf issued (now (places .entry)) (now (names .entry)) holders (now (acts .entry)) (now (rows .entry)) (now (sets .entry))) (issueStep p) → Showing c (issuedOf c (shown c (machineOf issued (now (places .entry)) (now (names .entry)) holders (now (acts .entry)) (now (rows .entry)) (now (sets .entry)))) p) (machineOf (issued + 1) (now (places .exit)) (now (names .exit)) holders (now (acts .exit)) (now (rows .exit)) (now (sets .exit)))) ⌝ }
 {
-    let k = m.issued;
-    let i = e.instr;
-    let place = place_after(i, e.place);
-    let word = machine::packed(e);
-    let mut n = m;
-    join_order(&mut n.rows, &m.acts, k, p, e);
-    join_sets(&mut n.sets, k, e);
-    n.acts[k] = word;
-    n.issued = k + 1;
-    n.places[p] = place;
-    n.names = names;
-    n
-}
-
-// The machine after an issue of processor p that nothing refuses. The registers are bound before the one assigned is renamed.
-pub fn issue(c: Case, m: Machine, p: usize) -> Machine
-    requires { ⌜ Accepted c m (issueStep p) ⌝ }
-    ensures { λ r. ⌜ Showing c (issuedOf c (shown c m) p) r ⌝ }
-{
-    let issued = m.issued;
-    let place = m.places[p];
-    let s = c.code[12 * p + words::wide(place)];
-    let i = s.instr;
-    let old = m.names;
-    let new = renamed(old, p, i, issued);
-    let e = new_entry(&c.masks, &c.presets, &old, &m.acts, issued, p, place, i);
-    enter(c, m, p, e, new)
+    let place = places[p];
+    let i = machine::instr_at(program, 12 * p + words::wide(place));
+    let old = *names;
+    rename(names, p, i, issued);
+    let e = new_entry(masks, presets, &old, acts, issued, p, place, i);
+    join_order(rows, acts, issued, p, e);
+    join_sets(sets, issued, e);
+    acts[issued] = machine::packed(e);
+    places[p] = place_after(i, place);
 }

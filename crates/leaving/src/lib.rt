@@ -1,7 +1,5 @@
 // Where a search may leave a machine: a release is queued that can never be committed, and no cut is left to find.
-use cases::Case;
 use machine::Entry;
-use machine::Machine;
 ghost use mathlib.Core.Path.{_≡_};
 ghost use mathlib.Core.Bool.{true, cond};
 ghost use Prim.Native.Nat.{_≤_, _<_};
@@ -10,9 +8,8 @@ ghost use Rattle.words.specs.Small.{someBelow};
 ghost use Rattle.cases.specs.declared.Case.{Case as TheCase};
 ghost use Rattle.rules.specs.State.{State};
 ghost use Rattle.sure.specs.Futile.{futile, queued, drains as isDrained, leaves};
-ghost use Rattle.machine.specs.Shown.{holderOf, shown, Presets, Acts};
+ghost use Rattle.machine.specs.Shown.{holderOf, Presets, Acts};
 ghost use Rattle.machine.specs.Kept.{Kept};
-ghost use Rattle.machine.specs.Valid.{Valid};
 ghost use Rattle.leaving.specs.Given.{Testing, Tested};
 
 // Whether action k, whose entry is e, is a release that can never be committed; x is the value of its first register.
@@ -97,23 +94,34 @@ fn drains(sets: &[u64; 21], issued: usize, n: usize) -> bool
     requires { ⌜ (issued ≤ 48) × (n ≤ 96) ⌝ }
     ensures { λ r. ⌜ ((c : TheCase) (s : State) → Kept c s (now (sets .entry)) → s .count ≡ issued → r ≡ isDrained n s) ⌝ }
 {
+    if n + 2 * issued < 96 {
+        return false;
+    }
     let q = queue(sets, issued);
     96 + q <= n + 2 * issued
 }
 
 // Whether a search may leave the machine with n steps to go, where the cut mark is set or not; where it may, this need not say so.
 // Most machines have no queued release: the sets tell.
-pub fn leave(c: Case, m: Machine, n: usize, marked: bool) -> bool
-    requires { ⌜ Valid c m × (n ≤ 96) ⌝ }
-    ensures { λ r. ⌜ (r ≡ true → leaves marked n (shown c m) ≡ true) ⌝ }
+pub fn leave<'a>(
+    masks: &'a [u8; 4],
+    presets: &'a [u16; 32],
+    sets: &'a [u64; 21],
+    holders: &'a [u8; 8],
+    acts: &'a [u64; 48],
+    issued: usize,
+    n: usize,
+    marked: bool,
+) -> bool
+    requires { ⌜ (issued ≤ 48) × (length (now holders) ≡ 8) × (n ≤ 96) ⌝ }
+    ensures { λ r. ⌜ ((c : TheCase) (s : State) → Presets c (now (masks .entry)) (now (presets .entry)) → Acts c issued (now (acts .entry)) s → Kept c s (now (sets .entry)) → s .holders ≡ (λ l. holderOf (getD (now (holders .entry)) l 0)) → r ≡ true → leaves marked n s ≡ true) ⌝ }
 {
-    if orders::minus(m.sets[15], m.sets[20]) == 0 {
+    if orders::minus(sets[15], sets[20]) == 0 {
         return false;
     }
-    let issued = m.issued;
-    let all = drains(&m.sets, issued, n);
+    let all = drains(sets, issued, n);
     if marked | all {
-        return some_futile(&c.masks, &c.presets, &m.sets, &m.holders, &m.acts, issued);
+        return some_futile(masks, presets, sets, holders, acts, issued);
     }
     false
 }

@@ -1,11 +1,11 @@
 -- From the search over a cleared buffer to the list of a case. Assumes nothing.
-use mathlib.Core.Path.{_≡_, refl, sym, subst}
+use mathlib.Core.Path.{_≡_, refl, sym, _∙_, ap, subst}
 use mathlib.Core.Logic.{_↔_}
 use mathlib.Core.Bool.{Bool, true, false}
 use mathlib.Core.List.{List}
 use Prim.Native.Nat.{ℕ, _≤_}
 use native.Mathlib.Omega.{arith}
-use lib.ListN.{length, replicate}
+use lib.ListN.{length, replicate, length-replicate}
 use Rattle.cases.specs.declared.Case.{Case}
 use Rattle.clauses.specs.declared.Asked.{Asked}
 use Rattle.clauses.specs.Wanted.{wanted, noClauses, meetsAll}
@@ -22,6 +22,7 @@ use Rattle.sure.proofs.Sweep.{told-outcomes, told-cut}
 use Rattle.machine.specs.declared.Machine.{Machine}
 use Rattle.machine.specs.Shown.{shown}
 use Rattle.machine.specs.Valid.{Valid}
+use Rattle.machine.specs.Lent.{Program}
 use Rattle.records.specs.Growth.{Filled, Joined}
 use Rattle.records.proofs.Growth.{iff-trans, in-second, filled-of}
 use Rattle.records.proofs.Closing.{listed, unlisted, filled-size, filled-more}
@@ -37,10 +38,10 @@ unfolding meetsAll
 all-wanted r = refl
 
 -- what the search is given
-pub ready-list : {c : Case} {m : Machine} {n : ℕ} {ahead : Bool} {asked : Asked} (size : ℕ) {zeros : List ℕ} → asked ≡ noClauses → shown c m ≡ initial c → Valid c m → ahead ≡ forward c → n ≤ 96 → zeros ≡ replicate size 0
-    → Ready c m 3200 n ahead asked (replicate 50 0) zeros empty
-ready-list {c} {m} {n} {ahead} {asked} size {zeros} none shows valid forwards few cleared =
-    subst (λ (a : Asked). Ready c m 3200 n ahead a (replicate 50 0) zeros empty) (sym none) (ready-start size (subst (Reachable (womm c)) (sym shows) (reachable-start (womm c))) valid forwards few (omega arith, tt) cleared)
+pub ready-list : {c : Case} {program : List ℕ} {m : Machine} {n : ℕ} {ahead : Bool} {asked : Asked} (size : ℕ) {zeros : List ℕ} → asked ≡ noClauses → Program c program → shown c m ≡ initial c → Valid c m → ahead ≡ forward c → n ≤ 96 → zeros ≡ replicate size 0
+    → Ready c program m 3200 n ahead asked (replicate 50 0) zeros empty
+ready-list {c} {program} {m} {n} {ahead} {asked} size {zeros} none coded shows valid forwards few cleared =
+    subst (λ (a : Asked). Ready c program m 3200 n ahead a (replicate 50 0) zeros empty) (sym none) (ready-start size coded (subst (Reachable (womm c)) (sym shows) (reachable-start (womm c))) valid forwards few (omega arith, tt) cleared)
 
 -- the machine's start is that of the rules, and there are no clauses
 pub from-start : {c : Case} {asked : Asked} {s : State} {spent : List ℕ} {n : ℕ} {before bytes : List ℕ} {y z : Tally} → asked ≡ noClauses → s ≡ initial c → Explored c (wanted asked) s 3200 spent n before y bytes z
@@ -56,6 +57,10 @@ module _ (c : Case) (n size : ℕ) {zeros : List ℕ} (cleared : zeros ≡ repli
 
   whole-size : length bytes ≡ size
   whole-size = filled-size size cleared filled
+
+  -- the buffer has its length still once it is cleared again
+  pub cleared-size : {out : List ℕ} → out ≡ replicate (length bytes) 0 → length out ≡ size
+  cleared-size e = ap length e ∙ length-replicate (length bytes) 0 ∙ whole-size
 
   -- there was room
   pub whole-listed : z .full ≡ false → {a : Listed} → a .code ≡ 0 → a .count ≡ z .count → a .cut ≡ z .cut → IsListing (womm c) n size a bytes

@@ -38,9 +38,18 @@ fn search(c: Case, n: usize, out: &mut [u8]) -> Answer
         cut: false,
         full: false,
     };
+    let program = machine::program(c);
+    let m = machine::start(c);
     let found = searching::explore(
         c,
-        machine::start(c),
+        &program,
+        &m.places,
+        &m.names,
+        &m.holders,
+        &m.acts,
+        &m.rows,
+        &m.sets,
+        m.issued,
         3200,
         n,
         choices::forward(c),

@@ -1,20 +1,20 @@
 -- Items: the eight initial writes, then one for each action. Assumes nothing.
 use mathlib.Core.Path.{_≡_, refl, sym, _∙_, ap, subst, fun-ext}
 use mathlib.Core.Logic.{⊎-elim}
-use mathlib.Core.Bool.{Bool, true, false, _&&_, not, cond, false≢true}
-use Prim.Native.Nat.{ℕ, zero, suc, _+_, _-_, _/_, _%_, _^_, _≤_, _<_}
+use mathlib.Core.Bool.{Bool, true, false, not, cond, false≢true}
+use Prim.Native.Nat.{ℕ, _+_, _-_, _^_, _<_}
 use native.Mathlib.Omega.{arith}
 use native.Mathlib.Decide.{decLt}
 use lib.Dec.{eqb, ltb}
-use lib.Pow.{shr-shr}
-use borrow.Author.Tests.{lt-ltb, le-ltb, ltb-true, eq-eqb, eqb-true, eqb-false, ne-eqb, not-true}
+use borrow.Author.Tests.{lt-ltb, le-ltb, ltb-true, eqb-false, ne-eqb, not-true}
 use Rattle.words.specs.Small.{someBelow, isNone, put}
-use Rattle.words.proofs.Bools.{decide, bool-eq, below-cases, below-make, and-both, and-make, put-same, put-other}
+use Rattle.words.proofs.Bools.{decide, below-cases, below-make, and-both, and-make, put-same, put-other}
 use Rattle.words.specs.Sets.{has}
 use Rattle.words.proofs.Lists.{all-below}
 use Rattle.words.proofs.Sets.{has-one, has-zero, has-high}
 use Rattle.rules.specs.State.{State, Action, itemIs, waiting}
 use Rattle.orders.specs.Rows.{SetOf}
+use Rattle.orders.proofs.Bits.{some-bit}
 use Rattle.machine.specs.Kept.{queued, hasValue}
 use Rattle.cases.specs.declared.Case.{Case}
 
@@ -39,20 +39,6 @@ module _ (f : Action → Bool) (s : State) where
   pub no-item : SetOf 8 (λ e. itemIs false f s e) 0
   no-item e = has-zero e ∙ elim (decLt e 8) [ yes k ↦ rw (lt-ltb e 8 k) | no k ↦ rw (le-ltb e 8 (omega arith)) ]
 
-  -- of the initial writes, that of location l alone can pass
-  pub first-passes : (l : ℕ) → l < 8 → (g : ℕ → Bool) → g l ≡ someBelow 8 (λ e. itemIs (eqb e l) f s e && g e)
-  first-passes l h g = bool-eq (g l) (someBelow 8 (λ e. itemIs (eqb e l) f s e && g e)) make take
-    where
-      make : g l ≡ true → someBelow 8 (λ e. itemIs (eqb e l) f s e && g e) ≡ true
-      make t = below-make 8 (λ e. itemIs (eqb e l) f s e && g e) l h (rw (lt-ltb l 8 h, eq-eqb l l refl) t)
-
-      take : someBelow 8 (λ e. itemIs (eqb e l) f s e && g e) ≡ true → g l ≡ true
-      take t =
-          let r = below-cases 8 (λ e. itemIs (eqb e l) f s e && g e) t in
-          let b = and-both (itemIs (eqb (r .0) l) f s (r .0)) (g (r .0)) (r .2) in
-          let q : eqb (r .0) l ≡ true = rw (lt-ltb (r .0) 8 (r .1)) at (b .0) in
-          ap g (sym (eqb-true (r .0) l q)) ∙ b .1
-
 -- the items with a value: the initial writes, and those of the committed actions
 pub values-are : (c : Case) (s : State) → hasValue c s ≡ (λ e. itemIs true (λ a. not (isNone (a .result))) s e)
 values-are c s = fun-ext (λ (e : ℕ). elim (decLt e 8) [ yes k ↦ rw (lt-ltb e 8 k) | no k ↦ rw (le-ltb e 8 (omega arith)) ])
@@ -64,22 +50,6 @@ module _ (s t : State) (k : ℕ) (a : Action) (acts : t .actions ≡ put (s .act
 
   pub item-other : (b : Bool) (e : ℕ) → (e ≡ 8 + k → ⊥) → itemIs b f s e ≡ itemIs b f t e
   item-other b e n = elim (decLt e 8) [ yes h ↦ rw (lt-ltb e 8 h) | no h ↦ rw (le-ltb e 8 (omega arith)) (ap f (sym (ap (λ (A : ℕ → Action). A (e - 8)) acts ∙ put-other (s .actions) k (e - 8) a (λ q. n (omega arith))))) ]
-
--- a number that is not 0 has a bit
-
-half-bit : (x e : ℕ) → has (x / 2) e ≡ has x (1 + e)
-half-bit x e = ap (λ (n : ℕ). eqb (n % 2) 1) (shr-shr x 1 e)
-
-pub some-bit : (n x : ℕ) → x ≤ n → (x ≡ 0 → ⊥) → (e : ℕ) × (has x e ≡ true)
-some-bit zero x h z = absurd (z (omega arith))
-some-bit (suc n) x h z =
-    elim (decLt (x % 2) 1) [
-      | yes k ↦ let r = some-bit n (x / 2) (omega (arith, positive z)) (λ q. z (omega arith)) in (1 + r .0, sym (half-bit x (r .0)) ∙ r .1)
-      | no k ↦ (0, eq-eqb (x / 2 ^ 0 % 2) 1 (omega arith))
-    ]
-  where
-    positive : (x ≡ 0 → ⊥) → 0 < x
-    positive q = omega arith
 
 -- a queue that is 0 is empty
 module _ (s : State) (p x : ℕ) (h : SetOf (8 + s .count) (queued s p) x) where

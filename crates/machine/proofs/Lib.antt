@@ -2,6 +2,7 @@ pub mod Packing
 pub mod Entries
 pub mod Items
 pub mod Stores
+pub mod Programs
 pub mod Listing
 pub mod Answers
 pub mod Starting

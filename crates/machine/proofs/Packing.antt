@@ -53,7 +53,7 @@ local-back d (Sum a b) h f = decoded 4 d a b 0 (omega arith) h (f .0) (f .1) (om
 local-back d (Difference a b) h f = decoded 5 d a b 0 (omega arith) h (f .0) (f .1) (omega arith) (λ q. omega arith)
 local-back d (Equal a b) h f = decoded 6 d a b 0 (omega arith) h (f .0) (f .1) (omega arith) (λ q. omega arith)
 
-code-back : (i : Instr) → Fine i → instrFrom (codeOf i) ≡ i
+pub code-back : (i : Instr) → Fine i → instrFrom (codeOf i) ≡ i
 code-back Empty f = absurd f
 code-back (Read d a) f = decoded 1 d a 0 0 (omega arith) (f .0) (f .1) (omega arith) (omega arith) (λ q. omega arith)
 code-back (Write a b) f = decoded 2 0 a b 0 (omega arith) (omega arith) (f .0) (f .1) (omega arith) (λ q. omega arith)

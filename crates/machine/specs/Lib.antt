@@ -4,3 +4,4 @@ pub mod Shown
 pub mod Kept
 pub mod Valid
 pub mod Given
+pub mod Lent

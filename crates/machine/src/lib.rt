@@ -4,8 +4,10 @@ mod word;
 use cases::Case;
 use cases::Instr;
 pub use word::entry_at;
+pub use word::instr_at;
 pub use word::kind_at;
 pub use word::packed;
+pub use word::program;
 ghost use mathlib.Core.Path.{_≡_};
 ghost use Prim.Native.Nat.{_/_, _%_, _≤_, _<_};
 ghost use lib.ListN.{getD};
@@ -14,9 +16,11 @@ ghost use Rattle.cases.specs.Case.{presetOf};
 ghost use Rattle.words.specs.Small.{orZero};
 ghost use Rattle.rules.specs.State.{State, initial, valueOf, itemValue, waiting};
 ghost use Rattle.rules.specs.Result.{finished as isFinished, registerBytes, registerOf, registers as registersOf};
-ghost use Rattle.machine.specs.Shown.{nameOf, shownValue, shownEntry, shown, Presets, Acts};
+ghost use Rattle.machine.specs.Shown.{nameOf, namesOf, shownValue, shownEntry, shown, Presets, Acts};
 ghost use Rattle.machine.specs.Fit.{Fit};
+ghost use Rattle.machine.specs.Kept.{Kept};
 ghost use Rattle.machine.specs.Valid.{Valid};
+ghost use Rattle.machine.specs.Lent.{Ending};
 
 // An action: its processor and place, the names of the registers that it reads, its location, and its result once it is done.
 pub struct Entry {
@@ -130,25 +134,29 @@ pub fn queued(e: Entry, p: usize) -> bool
 }
 
 // Whether every queue is empty and every place counter at its processor's count.
-pub fn finished(c: Case, m: Machine) -> bool
-    requires { ⌜ Valid c m ⌝ }
-    ensures { λ r. ⌜ r ≡ isFinished c (shown c m) ⌝ }
+pub fn finished<'a>(
+    counts: &'a [u8; 4],
+    places: &'a [u8; 4],
+    sets: &'a [u64; 21],
+    procs: u8,
+) -> bool
+    requires { ⌜ procs ≤ 4 ⌝ }
+    ensures { λ r. ⌜ ((c : TheCase) (s : State) → Ending c s (now (counts .entry)) (now (places .entry)) procs → Kept c s (now (sets .entry)) → r ≡ isFinished c s) ⌝ }
 {
-    let top = words::wide(c.procs);
+    let top = words::wide(procs);
     let mut all = true;
     let mut p: usize = 0;
     while p < top {
-        let idle = m.sets[16 + p] == 0;
-        let there = m.places[p] == c.counts[p];
+        let idle = sets[16 + p] == 0;
+        let there = places[p] == counts[p];
         all = all & (idle & there);
         p += 1;
     }
     all
 }
 
-// What register n, counted over all processors, holds; that of an absent processor nothing.
+// What register n, counted over all processors, holds.
 fn register<'a>(
-    procs: u8,
     masks: &'a [u8; 4],
     presets: &'a [u16; 32],
     names: &'a [u8; 32],
@@ -157,14 +165,8 @@ fn register<'a>(
     n: usize,
 ) -> Value
     requires { ⌜ (issued ≤ 48) × (n < 32) ⌝ }
-    ensures { λ r. ⌜ ((c : TheCase) (s : State) → c .procs ≡ procs → Presets c (now (masks .entry)) (now (presets .entry)) → Acts c issued (now (acts .entry)) s → s .names (n / 8) (n % 8) ≡ nameOf c (getD (now (names .entry)) n 0) → shownValue r ≡ registerOf c s (n / 8) (n % 8)) ⌝ }
+    ensures { λ r. ⌜ ((c : TheCase) (s : State) → Presets c (now (masks .entry)) (now (presets .entry)) → Acts c issued (now (acts .entry)) s → s .names (n / 8) (n % 8) ≡ nameOf c (getD (now (names .entry)) n 0) → shownValue r ≡ valueOf s (s .names (n / 8) (n % 8))) ⌝ }
 {
-    if words::wide(procs) <= n / 8 {
-        return Value {
-            known: false,
-            value: 0,
-        };
-    }
     named(masks, presets, acts, issued, names[n])
 }
 
@@ -185,17 +187,23 @@ pub fn byte_of(v: Value, j: usize) -> u8
     (v.value % 256) as u8
 }
 
-// The 96 bytes of registers.
-pub fn registers(c: Case, m: Machine) -> [u8; 96]
-    requires { ⌜ Valid c m ⌝ }
-    ensures { λ r. ⌜ r ≡ registersOf c (shown c m) ⌝ }
+// The 96 bytes of registers; those of an absent processor are zeros.
+pub fn registers<'a>(
+    masks: &'a [u8; 4],
+    presets: &'a [u16; 32],
+    names: &'a [u8; 32],
+    acts: &'a [u64; 48],
+    procs: u8,
+    issued: usize,
+) -> [u8; 96]
+    requires { ⌜ (issued ≤ 48) × (procs ≤ 4) ⌝ }
+    ensures { λ r. ⌜ ((c : TheCase) (s : State) → c .procs ≡ procs → Presets c (now (masks .entry)) (now (presets .entry)) → Acts c issued (now (acts .entry)) s → s .names ≡ namesOf c (now (names .entry)) → r ≡ registersOf c s) ⌝ }
 {
-    let procs = c.procs;
-    let issued = m.issued;
+    let top = 8 * words::wide(procs);
     let mut out = [0u8; 96];
     let mut n: usize = 0;
-    while n < 32 {
-        let v = register(procs, &c.masks, &c.presets, &m.names, &m.acts, issued, n);
+    while n < top {
+        let v = register(masks, presets, names, acts, issued, n);
         out[3 * n] = byte_of(v, 0);
         out[3 * n + 1] = byte_of(v, 1);
         out[3 * n + 2] = byte_of(v, 2);

@@ -1,5 +1,6 @@
 // An entry as one word: read from it, and packed.
 use crate::Entry;
+use cases::Case;
 use cases::Expr;
 use cases::Instr;
 ghost use mathlib.Core.Path.{_≡_};
@@ -7,6 +8,8 @@ ghost use mathlib.Core.Bool.{cond};
 ghost use Prim.Native.Nat.{_+_, _*_, _%_, _<_};
 ghost use lib.ListN.{getD};
 ghost use Rattle.rules.specs.Kinds.{kind};
+ghost use Rattle.machine.specs.Fit.{Fit};
+ghost use Rattle.machine.specs.Lent.{Program};
 ghost use Rattle.machine.specs.Word.{instrIn, instrFrom, coded as codedOf, localCode, codeOf, entryOf, Packable};
 
 // The instruction of an op, of d and of the number of its other fields.
@@ -40,6 +43,14 @@ fn instr_from(n: u64) -> Instr
     let d = (n / 16 % 8) as u8;
     let rest = (n / 16 / 8) as u16;
     instr_in(op, d, rest)
+}
+
+// The instruction at a slot of a program.
+pub fn instr_at(program: &[u64; 48], n: usize) -> Instr
+    requires { ⌜ n < 48 ⌝ }
+    ensures { λ r. ⌜ r ≡ instrFrom (getD (now (program .entry)) n 0 % 8388608) ⌝ }
+{
+    instr_from(program[n] % 8388608)
 }
 
 // The entry of action k.
@@ -129,6 +140,22 @@ fn code_of(i: Instr) -> u64
         Instr::Acquire(a) => coded(9, 0, a, 0, 0),
         Instr::Release(a) => coded(10, 0, a, 0, 0),
     }
+}
+
+// The program of a case: the numbers of its instructions, each at its slot.
+pub fn program(c: Case) -> [u64; 48]
+    requires { ⌜ Fit c ⌝ }
+    ensures { λ r. ⌜ Program c r ⌝ }
+{
+    let mut out = [0u64; 48];
+    let mut n: usize = 0;
+    while n < 48 {
+        let s = c.code[n];
+        let i = s.instr;
+        out[n] = code_of(i);
+        n += 1;
+    }
+    out
 }
 
 // Whether an action is done, with its result.

@@ -2,24 +2,49 @@
 use mathlib.Core.Path.{_≡_, refl, sym, ap, _∙_}
 use mathlib.Core.Bool.{Bool, true, false, _&&_, not, false≢true}
 use mathlib.Core.List.{List}
-use Prim.Native.Nat.{ℕ, _<_}
+use Prim.Native.Nat.{ℕ, _^_, _<_}
+use native.Mathlib.Omega.{arith}
+use native.Mathlib.Decide.{decLt}
+use lib.Bits.{bitAnd}
 use lib.Dec.{eqb, ltb}
 use lib.ListN.{getD}
-use borrow.Author.Tests.{lt-ltb, not-true, not-false}
+use borrow.Author.Tests.{lt-ltb, le-ltb, eq-eqb}
 use Rattle.words.specs.Small.{orZero, someBelow}
 use Rattle.words.specs.Sets.{has}
-use Rattle.words.proofs.Bools.{and-both, below-cases}
+use Rattle.words.proofs.Bools.{and-both, below-cases, below-make, below-same}
+use Rattle.words.proofs.Sets.{has-high}
 use Rattle.cases.specs.declared.Case.{Case}
 use Rattle.rules.specs.State.{State, itemValue}
 use Rattle.orders.specs.Rows.{SetOf}
+use Rattle.orders.proofs.Bits.{has-and}
+use Rattle.orders.proofs.Walks.{inSome}
 use Rattle.needless.specs.Echoes.{givesIn, isNovel, EchoIn, Unechoed}
 
--- a test of what is in a set
-pub shut-in : (b x y : Bool) → b ≡ x → not b ≡ true → false ≡ (x && y)
-shut-in b x y e h = ap (λ (z : Bool). z && y) (sym (not-true b h) ∙ e)
+-- a read takes v from item f
+abbrev pub takes : Case → State → ℕ → ℕ → Bool
+takes c s v f = eqb v (orZero (itemValue c s f))
 
-pub open-in : (b x y z : Bool) → b ≡ x → not b ≡ false → z ≡ y → z ≡ (x && y)
-open-in b x y z e h q = q ∙ ap (λ (t : Bool). t && y) (sym (not-false b h) ∙ e)
+module _ (c : Case) (s : State) (word done : ℕ) where
+  -- what the items of both sets give
+  pub gives-all : (v : ℕ) → inSome (bitAnd word done) (takes c s v) ≡ someBelow 64 (givesIn c s word done v)
+  gives-all v = below-same 64 (λ f. has (bitAnd word done) f && takes c s v f) (givesIn c s word done v) (λ f h. ap (λ (b : Bool). b && takes c s v f) (has-and word done f))
+
+  -- an item of both gives its own value
+  pub novel-all : (items r : ℕ) → word < 2 ^ 64 → ((a : ℕ) → has items a ≡ (has word a && not (has done a))) → ((a : ℕ) → has r a ≡ (has items a && isNovel c s word done a)) → SetOf 64 (isNovel c s word done) r
+  novel-all items r w I R a =
+      R a ∙ ap (λ (b : Bool). b && isNovel c s word done a) (I a)
+      ∙ elim (decLt a 64) [
+        | yes h ↦ keep (has word a) (has done a) (someBelow 64 (givesIn c s word done (orZero (itemValue c s a)))) (own h) ∙ rw (lt-ltb a 64 h)
+        | no h ↦ rw (le-ltb a 64 (omega arith), has-high word a w (omega arith))
+      ]
+    where
+      own : a < 64 → has word a ≡ true → has done a ≡ true → someBelow 64 (givesIn c s word done (orZero (itemValue c s a))) ≡ true
+      own h x y = below-make 64 (givesIn c s word done (orZero (itemValue c s a))) a h (rw (x, y) (eq-eqb (orZero (itemValue c s a)) (orZero (itemValue c s a)) refl))
+
+      keep : (x d n : Bool) → (x ≡ true → d ≡ true → n ≡ true) → (x && not d && (x && not n)) ≡ (x && not n)
+      keep true true n f = sym (ap not (f refl refl))
+      keep true false n f = refl
+      keep false d n f = refl
 
 module _ (c : Case) (s : State) (now : List ℕ) (w word : ℕ) where
   pub all-left : Unechoed c s now w word word

@@ -1,15 +1,15 @@
 -- Reads that nothing looks at. Assumes nothing.
-use mathlib.Core.Path.{_≡_, refl, sym, ap, ap₂, subst, _∙_}
+use mathlib.Core.Path.{_≡_, refl, sym, ap, subst, _∙_}
 use mathlib.Core.Logic.{_⊎_, ⊎-elim}
 use mathlib.Core.Bool.{Bool, true, false, _&&_, _||_, not, false≢true}
 use mathlib.Core.List.{List}
-use Prim.Native.Nat.{ℕ, _+_, _*_, _-_, _/_, _%_, _^_, _<_, _≤_}
+use Prim.Native.Nat.{ℕ, _+_, _*_, _-_, _^_, _<_, _≤_}
 use native.Mathlib.Omega.{arith}
 use lib.Dec.{eqb, ltb}
 use lib.ListN.{length, getD}
 use borrow.Author.Tests.{lt-ltb, ltb-true, ltb-false, eqb-true, eqb-false, eq-eqb, ne-eqb}
 use Rattle.words.specs.Small.{isNone, someBelow}
-use Rattle.words.proofs.Bools.{decide, or-cases, or-none, and-both, and-make, below-make, fails}
+use Rattle.words.proofs.Bools.{decide, or-cases, or-none, and-both, and-make, and-true, and-right, below-make, fails}
 use Rattle.words.specs.Sets.{has}
 use Rattle.words.proofs.Sets.{has-zero, has-or, has-one}
 use lib.Bits.{bitOr}
@@ -88,11 +88,11 @@ kinds-test q k e h = both (eqb k 1) (eqb k 3) (subst (λ (i : ℕ). (not (eqb i 
     both false false h = absurd (false≢true (sym h))
 
 -- a set with one number more
-pub joined-yes : (x k one a : ℕ) (test : Bool) → one ≡ 2 ^ k → test ≡ true → has (bitOr one x) a ≡ ((test && eqb a k) || has x a)
-joined-yes x k one a test e t = rw (e, t) (has-or (2 ^ k) x a ∙ ap (λ (b : Bool). b || has x a) (has-one k a))
+pub joined-yes : (x k one a : ℕ) (test : Bool) → one ≡ 2 ^ k → test ≡ true → has (bitOr one x) a ≡ ((eqb a k && test) || has x a)
+joined-yes x k one a test e t = has-or one x a ∙ rw (e, has-one k a, t) (ap (λ (b : Bool). b || has x a) (sym (and-true (eqb a k))))
 
-pub joined-no : (x k a : ℕ) (test : Bool) → test ≡ false → has x a ≡ ((test && eqb a k) || has x a)
-joined-no x k a test t = rw t refl
+pub joined-no : (x k a : ℕ) (test : Bool) → test ≡ false → has x a ≡ ((eqb a k && test) || has x a)
+joined-no x k a test t = rw t (ap (λ (b : Bool). b || has x a) (sym (and-right (eqb a k) false refl)))
 
 -- no action
 pub ignored-none : (s : State) → Ignored s (has 0)
@@ -108,7 +108,7 @@ ignored-none s =
     no k h = absurd (false≢true (sym (has-zero k) ∙ h))
 
 -- one action more
-pub ignored-more : (s : State) (inner k more : ℕ) (test : Bool) → k < s .count → Ignored s (has inner) → ((a : ℕ) → has more a ≡ ((test && eqb a k) || has inner a)) → (test ≡ true → Joins s inner k) → Ignored s (has more)
+pub ignored-more : (s : State) (inner k more : ℕ) (test : Bool) → k < s .count → Ignored s (has inner) → ((a : ℕ) → has more a ≡ ((eqb a k && test) || has inner a)) → (test ≡ true → Joins s inner k) → Ignored s (has more)
 ignored-more s inner k more test l I B J =
     record {
       there = λ a h. each (λ i. i < s .count) (λ t. l) (I .there) a h;
@@ -119,11 +119,11 @@ ignored-more s inner k more test l I B J =
   where
     each : (P : ℕ → Type 0) → (test ≡ true → P k) → ((a : ℕ) → has inner a ≡ true → P a) → (a : ℕ) → has more a ≡ true → P a
     each P f g a h =
-        ⊎-elim (λ w. let b = and-both test (eqb a k) w in subst P (sym (eqb-true a k (b .1))) (f (b .0))) (g a)
-        (or-cases (test && eqb a k) (has inner a) (sym (B a) ∙ h))
+        ⊎-elim (λ w. let b = and-both (eqb a k) test w in subst P (sym (eqb-true a k (b .0))) (f (b .1))) (g a)
+        (or-cases (eqb a k && test) (has inner a) (sym (B a) ∙ h))
 
     out : (j : ℕ) → has more j ≡ false → has inner j ≡ false
-    out j o = or-none (test && eqb j k) (has inner j) (sym (B j) ∙ o) .1
+    out j o = or-none (eqb j k && test) (has inner j) (sym (B j) ∙ o) .1
 
     new : (j : ℕ) → j < s .count → has inner j ≡ false → test ≡ true → awaits k (s .actions j) ≡ false
     new j z o t =

@@ -5,11 +5,11 @@ ghost use mathlib.Core.Bool.{true, _&&_, _||_, not};
 ghost use Prim.Native.Nat.{ℕ, _≤_, _<_};
 ghost use lib.Dec.{eqb};
 ghost use lib.ListN.{length};
-ghost use Rattle.words.specs.Small.{someBelow};
+ghost use Rattle.words.specs.Small.{orZero, someBelow};
 ghost use Rattle.words.specs.Sets.{has as inSet};
 ghost use Rattle.cases.specs.declared.Case.{Case as TheCase};
 ghost use Rattle.rules.specs.Kinds.{assigns};
-ghost use Rattle.rules.specs.State.{State};
+ghost use Rattle.rules.specs.State.{State, itemValue};
 ghost use Rattle.sure.specs.Dead.{isGiven, holdsOn, awaits as isAwaiting, Ignored};
 ghost use Rattle.orders.specs.Rows.{SetOf};
 ghost use Rattle.machine.specs.Shown.{nameOf, namesOf, shownEntry, Acts};
@@ -17,23 +17,11 @@ ghost use Rattle.needless.specs.Echoes.{givesIn, isNovel, Unechoed};
 ghost use Rattle.needless.specs.Joins.{Joins};
 ghost use Rattle.needless.specs.Given.{Asking, Joining};
 
-// Whether item f is in both sets and a read takes v from it.
-fn gives<'a>(
-    memory: &'a [u16; 8],
-    acts: &'a [u64; 48],
-    issued: usize,
-    word: u64,
-    done: u64,
-    f: usize,
-    v: u16,
-) -> bool
+// Whether a read takes v from item f.
+fn gives<'a>(memory: &'a [u16; 8], acts: &'a [u64; 48], issued: usize, f: usize, v: u16) -> bool
     requires { ⌜ issued ≤ 48 ⌝ }
-    ensures { λ r. ⌜ ((c : TheCase) (s : State) → c .memory ≡ now (memory .entry) → Acts c issued (now (acts .entry)) s → r ≡ givesIn c s word done v f) ⌝ }
+    ensures { λ r. ⌜ ((c : TheCase) (s : State) → c .memory ≡ now (memory .entry) → Acts c issued (now (acts .entry)) s → r ≡ eqb v (orZero (itemValue c s f))) ⌝ }
 {
-    let tried = words::has(done, f);
-    if !(words::has(word, f) & tried) {
-        return false;
-    }
     let w = machine::item_value(memory, acts, issued, f);
     v == machine::or_zero(w)
 }
@@ -51,16 +39,16 @@ fn some_gives<'a>(
     ensures { λ r. ⌜ ((c : TheCase) (s : State) → c .memory ≡ now (memory .entry) → Acts c issued (now (acts .entry)) s → r ≡ someBelow 64 (givesIn c s word done v)) ⌝ }
 {
     let mut found = false;
-    let mut f: usize = 0;
-    while f < 64 {
-        let g = gives(memory, acts, issued, word, done, f, v);
+    let mut rest = word & done;
+    while 0 < rest {
+        let g = gives(memory, acts, issued, orders::lowest(rest), v);
         found = g | found;
-        f += 1;
+        rest = orders::others(rest);
     }
     found
 }
 
-// Whether item e is in the set `word` and no item of both sets gives a read what e gives it.
+// Whether no item of both sets gives a read what e, an item of the set `word`, gives it.
 fn novel<'a>(
     memory: &'a [u16; 8],
     acts: &'a [u64; 48],
@@ -70,17 +58,14 @@ fn novel<'a>(
     e: usize,
 ) -> bool
     requires { ⌜ issued ≤ 48 ⌝ }
-    ensures { λ r. ⌜ ((c : TheCase) (s : State) → c .memory ≡ now (memory .entry) → Acts c issued (now (acts .entry)) s → r ≡ isNovel c s word done e) ⌝ }
+    ensures { λ r. ⌜ ((c : TheCase) (s : State) → c .memory ≡ now (memory .entry) → Acts c issued (now (acts .entry)) s → inSet word e ≡ true → r ≡ isNovel c s word done e) ⌝ }
 {
-    if !words::has(word, e) {
-        return false;
-    }
     let w = machine::item_value(memory, acts, issued, e);
     let echoed = some_gives(memory, acts, issued, word, done, machine::or_zero(w));
     !echoed
 }
 
-// The items of the set `word` whose value no item of both sets has.
+// The items of the set `word` whose value no item of both sets has: none of those is one of both.
 fn novel_items<'a>(
     memory: &'a [u16; 8],
     acts: &'a [u64; 48],
@@ -92,11 +77,12 @@ fn novel_items<'a>(
     ensures { λ r. ⌜ ((c : TheCase) (s : State) → c .memory ≡ now (memory .entry) → Acts c issued (now (acts .entry)) s → SetOf 64 (isNovel c s word done) r) ⌝ }
 {
     let mut items: u64 = 0;
-    let mut e: usize = 0;
-    while e < 64 {
+    let mut rest = orders::minus(word, done);
+    while 0 < rest {
+        let e = orders::lowest(rest);
         let test = novel(memory, acts, issued, word, done, e);
-        items = orders::with(items, e, test);
-        e += 1;
+        items = joined_by(items, e, test);
+        rest = orders::others(rest);
     }
     items
 }
@@ -207,7 +193,7 @@ fn may_join<'a>(
 // The set x, with k where the test passes.
 fn joined_by(x: u64, k: usize, test: bool) -> u64
     requires { ⌜ k < 64 ⌝ }
-    ensures { λ r. ⌜ ((a : ℕ) → inSet r a ≡ ((test && eqb a k) || inSet x a)) ⌝ }
+    ensures { λ r. ⌜ ((a : ℕ) → inSet r a ≡ ((eqb a k && test) || inSet x a)) ⌝ }
 {
     if test {
         return words::one(k) | x;

@@ -3,7 +3,7 @@ use mathlib.Core.Path.{_≡_, refl, sym, _∙_, ap, subst, fun-ext}
 use mathlib.Core.Logic.{_⊎_, inl, inr, ⊎-elim}
 use mathlib.Core.Bool.{Bool, true, false, _&&_, _||_}
 use mathlib.Core.List.{List}
-use Prim.Native.Nat.{ℕ, _+_, _≤_, _<_}
+use Prim.Native.Nat.{ℕ, _+_, _^_, _≤_, _<_}
 use native.Mathlib.Omega.{arith}
 use native.Mathlib.Decide.{decLt}
 use lib.Dec.{eqb, ltb}
@@ -16,7 +16,7 @@ use Rattle.words.specs.Small.{someBelow}
 use Rattle.rules.specs.Order.{Order, upTo, joined, joinedIf}
 use Rattle.orders.specs.Rows.{orderOf, SetOf, Reaches, joinedRow, JoinedTo, Joined}
 use Rattle.words.proofs.Bools.{or-nothing}
-use Rattle.words.proofs.Sets.{has-or}
+use Rattle.words.proofs.Sets.{has-or, has-one, has-zero}
 
 pub order-at : (rows : List ℕ) (a b : ℕ) → b < 56 → orderOf rows a b ≡ has (getD rows b 0) a
 unfolding orderOf
@@ -25,6 +25,13 @@ order-at rows a b k = rw (lt-ltb b 56 k)
 pub order-out : (rows : List ℕ) (a b : ℕ) → 56 ≤ b → orderOf rows a b ≡ false
 unfolding orderOf
 order-out rows a b h = rw (le-ltb b 56 h)
+
+-- item e and what stands before it
+pub up-to-in : (rows : List ℕ) (e one : ℕ) → e < 56 → one ≡ 2 ^ e → (a : ℕ) → has (bitOr one (getD rows e 0)) a ≡ (ltb e 56 && upTo (orderOf rows) a e)
+up-to-in rows e one h q a = has-or one (getD rows e 0) a ∙ rw (q, has-one e a, lt-ltb e 56 h, order-at rows a e h)
+
+pub up-to-out : (rows : List ℕ) (e : ℕ) → 56 ≤ e → (a : ℕ) → has 0 a ≡ (ltb e 56 && upTo (orderOf rows) a e)
+up-to-out rows e h a = rw (has-zero a, le-ltb e 56 h)
 
 pub joined-yes : (row b i mask : ℕ) → (eqb b i || has row i) ≡ true → joinedRow row b i mask ≡ bitOr row mask
 unfolding joinedRow

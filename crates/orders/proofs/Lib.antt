@@ -1,3 +1,5 @@
 pub mod Bits
+pub mod Trailing
+pub mod Walks
 pub mod Joins
 pub mod Reached

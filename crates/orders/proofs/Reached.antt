@@ -1,4 +1,4 @@
--- Sets and what they reach, one number more. Assumes nothing.
+-- Sets of the numbers below n, one number more. Assumes nothing.
 use mathlib.Core.Path.{_≡_, refl, sym, _∙_, ap}
 use mathlib.Core.Logic.{⊎-elim}
 use mathlib.Core.Bool.{Bool, true, false, _&&_, _||_}
@@ -11,9 +11,8 @@ use borrow.Author.Tests.{eqb-true, eqb-false, lt-ltb, le-ltb, ltb-true, ltb-fals
 use Rattle.words.specs.Small.{someBelow}
 use Rattle.words.specs.Sets.{has}
 use Rattle.words.proofs.Bools.{decide}
-use Rattle.words.proofs.Sets.{has-or, has-one, has-zero}
-use Rattle.rules.specs.Order.{Order, upTo}
-use Rattle.orders.specs.Rows.{SetOf, Reaches}
+use Rattle.words.proofs.Sets.{has-or, has-one}
+use Rattle.orders.specs.Rows.{SetOf}
 
 pub below-none : (f : ℕ → Bool) → false ≡ someBelow 0 f
 unfolding someBelow
@@ -48,10 +47,3 @@ module _ (n : ℕ) (P : ℕ → Bool) (x : ℕ) (set : SetOf n P x) where
 
   pub set-at : (e : ℕ) → e < n → has x e ≡ P e
   set-at e h = set e ∙ rw (lt-ltb e n h)
-
-pub reaches-none : (R : Order) (P : ℕ → Bool) → Reaches R 0 P 0
-unfolding someBelow
-reaches-none R P a = has-zero a
-
-pub reaches-more : (R : Order) (e : ℕ) (P : ℕ → Bool) (mask more : ℕ) (test : Bool) → Reaches R e P mask → test ≡ P e → ((a : ℕ) → has more a ≡ (test && upTo R a e)) → Reaches R (e + 1) P (bitOr more mask)
-reaches-more R e P mask more test r t h a = has-or more mask a ∙ below-next e (λ p. P p && upTo R a p) (has mask a) (has more a) (r a) (h a ∙ ap (λ (b : Bool). b && upTo R a e) t)

@@ -2,9 +2,11 @@
 ghost use mathlib.Core.Path.{_≡_};
 ghost use mathlib.Core.Bool.{Bool, _&&_, not};
 ghost use Prim.Native.Nat.{ℕ, _+_, _≤_, _<_};
+ghost use lib.Dec.{eqb, ltb};
 ghost use lib.ListN.{length};
 ghost use Rattle.words.specs.Sets.{has as inSet};
 ghost use Rattle.rules.specs.Order.{upTo};
+ghost use Rattle.orders.specs.Least.{Least};
 ghost use Rattle.orders.specs.Rows.{orderOf, joinedRow, SetOf, Reaches, JoinedTo, Joining, Joined};
 
 // Whether item a stands before item b.
@@ -18,13 +20,15 @@ pub fn before(rows: &[u64; 56], a: usize, b: usize) -> bool
     words::has(row, a)
 }
 
-// Item e and what stands before it.
+// Item e and what stands before it; past the last row nothing.
 fn up_to(rows: &[u64; 56], e: usize) -> u64
-    requires { ⌜ e < 56 ⌝ }
-    ensures { λ r. ⌜ ((a : ℕ) → inSet r a ≡ upTo (orderOf (now (rows .entry))) a e) ⌝ }
+    ensures { λ r. ⌜ ((a : ℕ) → inSet r a ≡ (ltb e 56 && upTo (orderOf (now (rows .entry))) a e)) ⌝ }
 {
-    let row = rows[e];
-    words::one(e) | row
+    if e < 56 {
+        let row = rows[e];
+        return words::one(e) | row;
+    }
+    0
 }
 
 // Row b once the mask is put before item i.
@@ -72,15 +76,19 @@ pub fn minus(x: u64, y: u64) -> u64
     x ^ (x & y)
 }
 
-// Item e and what stands before it, where the test passes, else nothing.
-fn up_to_if(rows: &[u64; 56], e: usize, test: bool) -> u64
-    requires { ⌜ e < 56 ⌝ }
-    ensures { λ r. ⌜ ((a : ℕ) → inSet r a ≡ (test && upTo (orderOf (now (rows .entry))) a e)) ⌝ }
+// The least number of a set, or 64.
+pub fn lowest(x: u64) -> usize
+    ensures { λ r. ⌜ Least x r ⌝ }
 {
-    if test {
-        return up_to(rows, e);
-    }
-    0
+    u64::trailing_zeros(x) as usize
+}
+
+// A set without its least number.
+pub fn others(x: u64) -> u64
+    requires { ⌜ 0 < x ⌝ }
+    ensures { λ r. ⌜ (r < x) × ((e : ℕ) → Least x e → (a : ℕ) → inSet r a ≡ (inSet x a && not (eqb a e))) ⌝ }
+{
+    x & (x - 1)
 }
 
 // The items of a set, all below n, and what stands before one of them.
@@ -89,12 +97,11 @@ fn reach(rows: &[u64; 56], items: u64, n: usize) -> u64
     ensures { λ r. ⌜ ((P : ℕ → Bool) → SetOf n P items → Reaches (orderOf (now (rows .entry))) n P r) ⌝ }
 {
     let mut mask: u64 = 0;
-    let mut e: usize = 0;
-    while e < n {
-        let test = words::has(items, e);
-        let more = up_to_if(rows, e, test);
+    let mut rest = items;
+    while 0 < rest {
+        let more = up_to(rows, lowest(rest));
         mask = more | mask;
-        e += 1;
+        rest = others(rest);
     }
     mask
 }

@@ -3,7 +3,7 @@ use mathlib.Core.Path.{_≡_, sym, ap, _∙_, subst}
 use mathlib.Core.Logic.{⊎-elim, _↔_}
 use mathlib.Core.Bool.{true, false, not, true≢false, false≢true}
 use mathlib.Core.List.{List, Memᴰ·cast}
-use Prim.Native.Nat.{ℕ, _+_, _≤_, _<_}
+use Prim.Native.Nat.{ℕ, _+_, _-_, _≤_, _<_}
 use native.Mathlib.Nat.{eq-or-lt-of-le}
 use native.Mathlib.Decide.{decLt}
 use native.Mathlib.Omega.{arith}
@@ -38,6 +38,13 @@ module _ {bs : List ℕ} {n : ℕ} (held : Held bs n) (r : List ℕ) where
       where
         same : (k : ℕ) → below (recordAt bs k) r ≡ true → mid ≡ k → below (recordAt bs mid) r ≡ true
         same k e p = subst (λ (i : ℕ). below (recordAt bs i) r ≡ true) (sym p) e
+
+  -- after the last record, if there is one
+  pub place-first : n ≡ 0 → Place bs n r n
+  place-first e = record { within = omega arith; under = λ k l. absurd (omega arith); over = λ k l m. absurd (omega arith) }
+
+  pub place-last : 0 < n → below (recordAt bs (n - 1)) r ≡ true → Place bs n r n
+  place-last p h = record { within = omega arith; under = λ k l. between-up (between-all bs n r) (n - 1) (omega arith) h .under k (omega arith); over = λ k l m. absurd (omega arith) }
 
   module _ {at : ℕ} (w : Place bs n r at) where
     -- a record that is there stands at its place

@@ -84,11 +84,27 @@ pub fn below(a: &[u8], b: &[u8]) -> bool
     below_from(a, b, i)
 }
 
-// The place of r among the n records, by halving.
+// Whether r is above the last of the n records, if there is one.
+fn after_last(out: &[u8], n: usize, r: &[u8]) -> bool
+    requires { ⌜ Finding (now out) n (now r) ⌝ }
+    ensures { λ x. ⌜ (x ≡ true → Place (now (out .entry)) n (now (r .entry)) n) ⌝ }
+{
+    if n == 0 {
+        return true;
+    }
+    let from = 96 * (n - 1);
+    let end = from + 96;
+    below(&out[from..end], r)
+}
+
+// The place of r among the n records: after the last, or found by halving.
 fn find(out: &[u8], n: usize, r: &[u8]) -> usize
     requires { ⌜ Finding (now out) n (now r) ⌝ }
     ensures { λ x. ⌜ Place (now (out .entry)) n (now (r .entry)) x ⌝ }
 {
+    if after_last(out, n, r) {
+        return n;
+    }
     let mut low = 0;
     let mut high = n;
     while low < high {

@@ -16,6 +16,8 @@ use Rattle.machine.specs.declared.Machine.{Machine}
 use Rattle.machine.specs.Shown.{shown}
 use Rattle.machine.specs.Valid.{Valid}
 use Rattle.machine.specs.Given.{Showing}
+use Rattle.stepping.specs.Coded.{Placing}
+use Rattle.stepping.proofs.Places.{placing}
 use Rattle.replaying.specs.Inner.{IsWalk}
 
 -- a replay with k steps before it
@@ -39,7 +41,7 @@ stop c s t ts h = ended (stepCode c s t) h
 
 module _ (sch : List ℕ) where
   -- the step at 4k
-  abbrev stepAt : ℕ → Step
+  abbrev pub stepAt : ℕ → Step
   stepAt k = stepOf (getD sch (4 * k) 0) (getD sch (4 * k + 1) 0) (getD sch (4 * k + 2) 0) (getD sch (4 * k + 3) 0)
 
   drop-next : (i j : ℕ) → i < length sch → suc i ≡ j → drop i sch ≡ getD sch i 0 ∷ drop j sch
@@ -70,6 +72,10 @@ module _ (sch : List ℕ) where
       ∙ ap (λ (i : ℕ). getD (stepsOf (drop i sch)) j neither) n
 
   module _ (c : Case) where
+    -- the place of the step at 4k can be asked for once it has its code
+    pub step-placing : (k : ℕ) (m : Machine) → Valid c m → (code : ℕ) → code ≡ stepCode c (shown c m) (stepAt k) → Placing (getD sch (4 * k) 0) (getD sch (4 * k + 1) 0) (getD sch (4 * k + 2) 0) code
+    step-placing k m v code is = placing c m v (getD sch (4 * k) 0) (getD sch (4 * k + 1) 0) (getD sch (4 * k + 2) 0) (getD sch (4 * k + 3) 0) code is
+
     abbrev whole : Replay State
     whole = replay (womm c) (initial c) (stepsOf sch)
 

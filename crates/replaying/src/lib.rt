@@ -37,7 +37,17 @@ pub fn walk(c: Case, schedule: &[u8]) -> Walked
     requires { ⌜ Walking c (now schedule) ⌝ }
     ensures { λ r. ⌜ IsWalk c (stepsOf (now (schedule .entry))) r ⌝ }
 {
-    let mut m = machine::start(c);
+    let program = machine::program(c);
+    let start = machine::start(c);
+    let procs = c.procs;
+    let locs = c.locs;
+    let mut places = start.places;
+    let mut names = start.names;
+    let mut holders = start.holders;
+    let mut acts = start.acts;
+    let mut rows = start.rows;
+    let mut sets = start.sets;
+    let mut issued = start.issued;
     let mut steps: usize = 0;
     while 4 * steps < schedule.len() {
         let i = 4 * steps;
@@ -45,23 +55,73 @@ pub fn walk(c: Case, schedule: &[u8]) -> Walked
         let proc = schedule[i + 1];
         let action = schedule[i + 2];
         let source = schedule[i + 3];
-        let code = stepping::code_of(c, m, kind, proc, action, source);
+        let code = stepping::code_of(
+            &program,
+            &c.counts,
+            &c.masks,
+            &c.presets,
+            &places,
+            &names,
+            &holders,
+            &acts,
+            &rows,
+            &sets,
+            procs,
+            locs,
+            issued,
+            kind,
+            proc,
+            action,
+            source,
+        );
         if code != 0 {
             return Walked {
                 code,
                 steps,
-                place: stepping::place_of(c, m, kind, proc, action, source, code),
-                machine: m,
+                place: stepping::place_of(&places, &acts, kind, proc, action, code),
+                machine: Machine {
+                    issued,
+                    places,
+                    names,
+                    holders,
+                    acts,
+                    rows,
+                    sets,
+                },
             };
         }
-        m = stepping::taken(c, m, kind, proc, action, source);
+        issued = stepping::take(
+            &program,
+            &c.masks,
+            &c.presets,
+            &c.memory,
+            &mut places,
+            &mut names,
+            &mut holders,
+            &mut acts,
+            &mut rows,
+            &mut sets,
+            issued,
+            kind,
+            proc as usize,
+            action as usize,
+            source as usize,
+        );
         steps += 1;
     }
     Walked {
         code: 0,
         steps,
         place: 255,
-        machine: m,
+        machine: Machine {
+            issued,
+            places,
+            names,
+            holders,
+            acts,
+            rows,
+            sets,
+        },
     }
 }
 
@@ -131,7 +191,7 @@ fn show(c: Case, m: Machine, result: &mut [u8])
 {
     let procs = c.procs;
     let issued = m.issued;
-    let registers = machine::registers(c, m);
+    let registers = machine::registers(&c.masks, &c.presets, &m.names, &m.acts, procs, issued);
     let mut i: usize = 0;
     while i < 104 {
         let b = result_byte(procs, &registers, &m.places, &m.acts, issued, i);

@@ -1,22 +1,23 @@
 -- Where a search goes on. Assumes nothing.
-use mathlib.Core.Path.{_≡_, sym, _∙_, subst}
-use mathlib.Core.Bool.{Bool, false}
+use mathlib.Core.Path.{_≡_, refl, sym, _∙_, subst}
+use mathlib.Core.Bool.{Bool, cond}
 use mathlib.Core.List.{List}
 use Prim.Native.Nat.{ℕ, _≤_, _<_}
 use native.Mathlib.Omega.{arith}
 use native.Mathlib.Decide.{decLt}
-use lib.ListN.{length}
+use lib.Dec.{ltb}
+use lib.ListN.{length, replicate}
 use borrow.Author.Tests.{lt-ltb, le-ltb}
 use Rattle.cases.specs.declared.Case.{Case}
 use Rattle.clauses.specs.declared.Asked.{Asked}
-use Rattle.clauses.specs.Wanted.{wanted, Askable}
+use Rattle.clauses.specs.Wanted.{wanted}
 use Rattle.runs.specs.Reachable.{Reachable}
 use Rattle.runs.specs.Wanted.{Wish}
 use Rattle.runs.proofs.Reachable.{reachable-step}
 use Rattle.rules.specs.State.{State}
 use Rattle.rules.specs.Step.{after}
 use Rattle.rules.specs.Womm.{womm}
-use Rattle.sure.specs.Sure.{Sized, forward}
+use Rattle.sure.specs.Sure.{Sized}
 use Rattle.sure.specs.Spent.{stepBy, Rested}
 use Rattle.sure.proofs.Known.{known}
 use Rattle.sure.proofs.Sweep.{rested-after}
@@ -24,13 +25,12 @@ use Rattle.machine.specs.declared.Machine.{Machine}
 use Rattle.machine.specs.Shown.{shown}
 use Rattle.machine.specs.Given.{Showing}
 use Rattle.machine.specs.Fit.{Fit}
-use Rattle.machine.specs.Valid.{Valid}
-use Rattle.records.specs.Buffer.{Held}
 use Rattle.spending.specs.Words.{spentBy, keyAt}
 use Rattle.searching.specs.declared.Tally.{Tally}
 use Rattle.searching.specs.Entered.{entered, Woken}
 use Rattle.searching.specs.Ready.{Ready}
 use Rattle.searching.specs.Searched.{Searched, Explored}
+use Rattle.searching.proofs.Starts.{not-spent}
 
 module _ (c : Case) (s : State) (i : ℕ) where
   pub entered-step : i < 3200 → entered c s i ≡ after c s (stepBy s (keyAt i))
@@ -42,24 +42,21 @@ module _ (c : Case) (s : State) (i : ℕ) where
 pub sized : (c : Case) → Fit c → Sized c
 sized c F = record { few = F .procs; short = λ p _. F .counts p }
 
--- a machine that is reached, with what is spent there
-pub record Standing (c : Case) (m : Machine) (n : ℕ) (ahead : Bool) (asked : Asked) (spent : List ℕ) (bytes : List ℕ) (y : Tally) : Type 0 where
-  pub valid : Valid c m
-  pub reached : Reachable (womm c) (shown c m)
-  pub forwards : ahead ≡ forward c
-  pub few : n ≤ 96
-  pub asks : Askable asked
-  pub long : length spent ≡ 50
-  pub rested : Rested c (shown c m) (spentBy spent)
-  pub room : y .full ≡ false
-  pub held : Held bytes (y .count)
+-- where the search ends at once, nothing need stay spent
+pub woken-none : (s : State) (i : ℕ) (spent : List ℕ) → Woken s i spent (cond (ltb i 3200) (replicate 50 0) spent)
+woken-none s i spent =
+    record {
+      step = λ l. rw (lt-ltb i 3200 l) (record { long = refl; calm = λ a h. absurd (not-spent a h) });
+      none = λ l. rw (le-ltb i 3200 l);
+    }
 
-module _ {c : Case} {m : Machine} {i n : ℕ} {ahead : Bool} {asked : Asked} {spent calm bytes : List ℕ} {y : Tally} {next : Machine} (woken : Woken (shown c m) i spent calm) (E : Showing c (entered c (shown c m) i) next) where
+module _ {c : Case} {program : List ℕ} {m : Machine} {i n : ℕ} {ahead : Bool} {asked : Asked} {spent calm bytes : List ℕ} {y : Tally} {next : Machine} (woken : Woken (shown c m) i spent calm) (E : Showing c (entered c (shown c m) i) next) where
   -- the search goes on from there
-  pub standing : Ready c m i n ahead asked spent bytes y → Standing c next n ahead asked calm bytes y
+  pub standing : Ready c program m i n ahead asked spent bytes y → Ready c program next 3200 n ahead asked calm bytes y
   standing R =
       record {
-        valid = E .valid;
+        coded = R .coded;
+        entering = record { valid = E .valid; fits = λ l. absurd (omega arith) };
         reached = reached;
         forwards = R .forwards;
         few = R .few;

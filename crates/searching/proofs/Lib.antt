@@ -1,6 +1,8 @@
+pub mod Lends
+pub mod Starts
 pub mod Entered
+pub mod Taken
 pub mod Opened
 pub mod Ends
 pub mod Loop
 pub mod Returns
-pub mod Starts

@@ -41,6 +41,7 @@ pub record Sweeping (c : Case) (W : Wish) (sp : Spent) (s : State) (n : ℕ) (be
   pub room : sum .full ≡ false
   pub held : Held bytes (sum .count)
   pub size : length bytes ≡ length before
+  pub above : from ≤ at
   pub more : (a : Key) → sp a ≡ true → spentBy now a ≡ true
   pub sweep : Sweep c W sp s n (spentBy now) (Tells before y) (Tells bytes sum)
   pub past : (i : ℕ) → from ≤ i → i < at → i < to → opensAt c s i ≡ true → Needless c s (spentBy now) (keyAt i)
@@ -53,6 +54,7 @@ module _ (c : Case) (W : Wish) (Z : Sized c) (s : State) (sp : Spent) (K : Known
         room = room;
         held = held;
         size = refl;
+        above = omega arith;
         more = λ a h. subst (λ (now : Spent). now a ≡ true) e h;
         sweep = subst (λ (now : Spent). Sweep c W sp s n now (Tells before y) (Tells before y)) e (sweep-start c W Z s sp K n R);
         past = λ i a b. absurd (omega arith);
@@ -67,6 +69,7 @@ module _ (c : Case) (W : Wish) (Z : Sized c) (s : State) (sp : Spent) (K : Known
           room = S .room;
           held = S .held;
           size = S .size;
+          above = omega (arith, S .above, next .from);
           more = S .more;
           sweep = S .sweep;
           past = past;
@@ -89,6 +92,7 @@ module _ (c : Case) (W : Wish) (Z : Sized c) (s : State) (sp : Spent) (K : Known
             room = room;
             held = D .filled .held room;
             size = D .filled .size ∙ S .size;
+            above = omega (arith, S .above, next .from);
             more = λ a h. noted .kept a (S .more a h);
             sweep = sweep-turn c W Z s sp K n (S .sweep) (keyAt j) taken (opens-restful c s none _ _ (next .found l .0)) (spentBy calm) (rest .calm) (D .told room) (spentBy more) (noted .only);
             past = past;

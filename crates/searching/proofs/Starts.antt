@@ -5,7 +5,7 @@ use mathlib.Core.List.{List, List·Memᴰ·not-nil}
 use Prim.Native.Nat.{ℕ, zero, suc, _≤_}
 use native.Mathlib.Omega.{arith}
 use lib.Dec.{eqb, ltb}
-use lib.ListN.{length, replicate, getD}
+use lib.ListN.{replicate, getD}
 use Rattle.words.specs.Sets.{has}
 use Rattle.words.proofs.Sets.{has-zero}
 use Rattle.words.proofs.Bools.{or-false, and-right}
@@ -16,12 +16,13 @@ use Rattle.runs.specs.Reachable.{Reachable}
 use Rattle.runs.specs.Wanted.{Wish}
 use Rattle.rules.specs.State.{State}
 use Rattle.rules.specs.Womm.{womm}
-use Rattle.sure.specs.Spent.{Key, taking, issuing, Spent, fresh, Rested}
+use Rattle.sure.specs.Spent.{Key, taking, issuing, Spent, fresh}
 use Rattle.sure.specs.Sure.{forward}
 use Rattle.sure.specs.Told.{Question, outcome, cut, Told}
 use Rattle.machine.specs.declared.Machine.{Machine}
 use Rattle.machine.specs.Shown.{shown}
 use Rattle.machine.specs.Valid.{Valid}
+use Rattle.machine.specs.Lent.{Program}
 use Rattle.records.specs.Buffer.{recordsIn}
 use Rattle.records.proofs.Buffer.{held-zeros}
 use Rattle.spending.specs.Words.{spentBy}
@@ -47,25 +48,26 @@ spent-none = fun-ext each
     each (taking k e) = or-false _ _ (and-right (ltb k 48) _ (none k e)) (and-right (eqb e 0) _ (none 48 k))
     each (issuing p) = none 49 p
 
-pub rested-none : (c : Case) (s : State) → Rested c s (spentBy (replicate 50 0))
-rested-none c s a h = absurd (false≢true (sym (ap (λ (sp : Spent). sp a) spent-none) ∙ h))
+pub not-spent : (a : Key) → spentBy (replicate 50 0) a ≡ true → ⊥
+not-spent a h = false≢true (sym (ap (λ (sp : Spent). sp a) spent-none) ∙ h)
 
 -- the tally before the search
 abbrev pub empty : Tally
 empty = record { count = 0; cut = false; full = false }
 
 -- what the search is given
-pub ready-start : {c : Case} {m : Machine} {n : ℕ} {ahead : Bool} {asked : Asked} (size : ℕ) {zeros : List ℕ} → Reachable (womm c) (shown c m) → Valid c m → ahead ≡ forward c → n ≤ 96 → Askable asked → zeros ≡ replicate size 0
-    → Ready c m 3200 n ahead asked (replicate 50 0) zeros empty
-ready-start {c} {m} size {zeros} reached valid forwards few asks cleared =
+pub ready-start : {c : Case} {program : List ℕ} {m : Machine} {n : ℕ} {ahead : Bool} {asked : Asked} (size : ℕ) {zeros : List ℕ} → Program c program → Reachable (womm c) (shown c m) → Valid c m → ahead ≡ forward c → n ≤ 96 → Askable asked → zeros ≡ replicate size 0
+    → Ready c program m 3200 n ahead asked (replicate 50 0) zeros empty
+ready-start {c} {program} {m} size {zeros} coded reached valid forwards few asks cleared =
     record {
+      coded = coded;
       entering = record { valid = valid; fits = λ l. absurd (omega arith) };
       reached = reached;
       forwards = forwards;
       few = few;
       asks = asks;
       long = refl;
-      rested = rested-none c (shown c m);
+      rested = λ a h. absurd (not-spent a h);
       room = refl;
       held = held-zeros size zeros cleared;
     }

@@ -4,7 +4,7 @@ use mathlib.Core.Logic.{⊎-elim}
 use mathlib.Core.Bool.{Bool, true, false, _&&_, _||_, not, cond, false≢true}
 use mathlib.Core.List.{List, [], _∷_}
 use mathlib.Core.Option.{Option, none, some}
-use Prim.Native.Nat.{ℕ, zero, suc, _+_, _-_, _*_, _/_, _%_, _^_, _≤_, _<_}
+use Prim.Native.Nat.{ℕ, _+_, _-_, _*_, _/_, _%_, _^_, _≤_, _<_}
 use native.Mathlib.Nat.{div-eq-of-lt, le-trans}
 use native.Mathlib.Omega.{arith}
 use native.Mathlib.Decide.{decLt}
@@ -23,12 +23,13 @@ use Rattle.cases.specs.declared.Instr.{Instr}
 use Rattle.cases.specs.declared.Instr.the-variants.{Empty, Read, Write, Local, Branch, Goto, Acquire, Release}
 use Rattle.rules.specs.Kinds.{kind, writing, heldBy}
 use Rattle.rules.specs.State.{State, kindOf, waiting, valueOf, itemValue}
+use Rattle.orders.specs.Least.{Least}
+use Rattle.orders.proofs.Bits.{has-and, some-bit}
 use Rattle.machine.specs.Kept.{Kept}
 use Rattle.machine.proofs.Items.{item-is}
 use Rattle.machine.proofs.Entries.{item-given, name-start, name-given}
 use Rattle.machine.specs.Shown.{nameOf}
-use Rattle.sights.specs.Sights.{holding, HoldRow, Names, Least}
-use Rattle.sights.proofs.Bits.{has-and, some-bit}
+use Rattle.sights.specs.Sights.{holding, HoldRow, Names}
 
 -- the hold-back table says what the rule says
 

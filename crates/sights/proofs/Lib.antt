@@ -1,3 +1,2 @@
-pub mod Bits
 pub mod Holds
-pub mod Walks
+pub mod Seeing

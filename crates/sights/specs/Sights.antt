@@ -47,10 +47,3 @@ pub record Sight (c : Case) (s : State) (sets rows : List ℕ) (l i : ℕ) : Typ
   pub orders : s .orders ≡ ordersOf c (s .actions) rows
   pub loc : l < c .locs
   pub stands : standsIn (s .actions) l i ≡ true
-
--- r is the least number of the set x, or 64 where it is empty.
-pub record Least (x r : ℕ) : Type 0 where
-  pub upto : r ≤ 64
-  pub low : 0 < x → r < 64
-  pub inside : r < 64 → has x r ≡ true
-  pub first : (a : ℕ) → a < r → has x a ≡ false

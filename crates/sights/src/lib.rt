@@ -12,10 +12,10 @@ ghost use Rattle.rules.specs.Commit.{visible};
 ghost use Rattle.orders.specs.Rows.{orderOf};
 ghost use Rattle.machine.specs.Shown.{nameOf};
 ghost use Rattle.machine.specs.Kept.{Kept};
-ghost use Rattle.sights.specs.Sights.{holding, Held, KindAt, HoldRow, Names, Sight, Least};
+ghost use Rattle.sights.specs.Sights.{holding, Held, KindAt, HoldRow, Names, Sight};
 
 // The numbers below n of a set.
-fn below(x: u64, n: usize) -> u64
+pub fn below(x: u64, n: usize) -> u64
     requires { ⌜ n < 64 ⌝ }
     ensures { λ r. ⌜ ((a : ℕ) → inSet r a ≡ (inSet x a && ltb a n)) ⌝ }
 {
@@ -58,9 +58,9 @@ fn of_kinds(sets: &[u64; 21], kinds: u64) -> u64
     let mut items: u64 = 0;
     let mut rest = kinds;
     while 0 < rest {
-        let more = of_kind(sets, lowest(rest));
+        let more = of_kind(sets, orders::lowest(rest));
         items = more | items;
-        rest = others(rest);
+        rest = orders::others(rest);
     }
     items
 }
@@ -108,21 +108,6 @@ pub fn known<'a>(masks: &'a [u8; 4], sets: &'a [u64; 21], name: u8) -> bool
     words::has(sets[20], n - 24)
 }
 
-// The least number of a set, or 64.
-pub fn lowest(x: u64) -> usize
-    ensures { λ r. ⌜ Least x r ⌝ }
-{
-    u64::trailing_zeros(x) as usize
-}
-
-// A set without its least number.
-pub fn others(x: u64) -> u64
-    requires { ⌜ 0 < x ⌝ }
-    ensures { λ r. ⌜ (r < x) × ((e : ℕ) → Least x e → (a : ℕ) → inSet r a ≡ (inSet x a && not (eqb a e))) ⌝ }
-{
-    x & (x - 1)
-}
-
 // What stands before item w.
 fn row_at(rows: &[u64; 56], w: usize) -> u64
     ensures { λ r. ⌜ ((a : ℕ) → inSet r a ≡ orderOf (now (rows .entry)) a w) ⌝ }
@@ -140,9 +125,9 @@ fn covered(rows: &[u64; 56], items: u64) -> u64
     let mut mask: u64 = 0;
     let mut rest = items;
     while 0 < rest {
-        let more = row_at(rows, lowest(rest));
+        let more = row_at(rows, orders::lowest(rest));
         mask = more | mask;
-        rest = others(rest);
+        rest = orders::others(rest);
     }
     mask
 }
@@ -165,10 +150,10 @@ fn not_after(rows: &[u64; 56], items: u64, i: usize) -> u64
     let mut seen: u64 = 0;
     let mut rest = items;
     while 0 < rest {
-        let e = lowest(rest);
+        let e = orders::lowest(rest);
         let late = orders::before(rows, i, e);
         seen = with_unless(seen, e, late);
-        rest = others(rest);
+        rest = orders::others(rest);
     }
     seen
 }

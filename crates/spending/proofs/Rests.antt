@@ -18,12 +18,12 @@ use Rattle.cases.specs.declared.Case.{Case}
 use Rattle.cases.specs.declared.Instr.{Instr}
 use Rattle.cases.specs.declared.Instr.the-variants.{Empty, Read, Write, Local, Branch, Goto, Acquire, Release}
 use Rattle.rules.specs.Kinds.{kind, acquiring, reads}
-use Rattle.rules.specs.State.{State, Action, kindOf, inputOf, valueOf, start, unissued}
+use Rattle.rules.specs.State.{State, Action, kindOf, inputOf, valueOf, start}
 use Rattle.rules.specs.Step.{issue, commit}
 use Rattle.words.specs.Small.{orZero}
 use Rattle.orders.specs.Rows.{SetOf}
 use Rattle.machine.specs.declared.Entry.{Entry}
-use Rattle.machine.specs.Shown.{inputsOf, nameOf, shownEntry, actionsOf, Acts}
+use Rattle.machine.specs.Shown.{inputsOf, nameOf, shownEntry, Acts}
 use Rattle.machine.proofs.Entries.{action-out}
 use Rattle.sure.specs.Spent.{Key, taking, issuing, stepBy, rivals, wakes}
 use Rattle.spending.specs.Words.{spentBy}
@@ -103,8 +103,8 @@ pub issue-other : (x q p n : ℕ) (bit word : ℕ) → n + 1 < 48 → has bit q 
 issue-other x q p n bit word h e w = w ∙ rw (e, borrow.Author.Tests.lt-leb 48 (suc n) (omega arith)) (ap (λ (b : Bool). has x q && not b) (sym (or-nothing (eqb q p))))
 
 -- the kind of an action that is not issued
-pub unissued-kind : (c : Case) (n : ℕ) (acts : List ℕ) (k : ℕ) → n ≤ k → kindOf (actionsOf c n acts k) ≡ 6 → ⊥
-unissued-kind c n acts k h e = let q : actionsOf c n acts k ≡ unissued = rw (le-ltb k n h) in omega (arith, sym (ap kindOf q) ∙ e)
+pub unissued-kind : (c : Case) (n : ℕ) (acts : List ℕ) (s : State) (k : ℕ) → Acts c n acts s → n ≤ k → kindOf (s .actions k) ≡ 6 → ⊥
+unissued-kind c n acts s k A h e = omega (arith, sym (ap kindOf (action-out c n acts s A k h)) ∙ e)
 
 -- the key of a position
 
@@ -133,16 +133,16 @@ module _ (s : State) (now : List ℕ) (long : length now ≡ 50) where
       calm f (issuing p) = refl
 
   -- an acquire wakes the acquires of its location
-  pub rest-acquire : (c : Case) (acts : List ℕ) (e : Entry) (gone : ℕ) (less : List ℕ) (j k : ℕ) → Acts c (s .count) acts s → j / 64 < 49 → k ≡ actionAt j → s .actions k ≡ shownEntry c e → SetOf (s .count) (λ i. rivals s (shownEntry c e) (s .actions i)) gone → Cleared now gone 48 less → RestedBy s (stepBy s (keyAt j)) now less
+  pub rest-acquire : (c : Case) (n : ℕ) (acts : List ℕ) (e : Entry) (gone : ℕ) (less : List ℕ) (j k : ℕ) → Acts c n acts s → j / 64 < 49 → k ≡ actionAt j → s .actions k ≡ shownEntry c e → SetOf n (λ i. rivals s (shownEntry c e) (s .actions i)) gone → Cleared now gone 48 less → RestedBy s (stepBy s (keyAt j)) now less
   unfolding spentBy
-  rest-acquire c acts e gone less j k A h q z set C =
+  rest-acquire c n acts e gone less j k A h q z set C =
       subst (λ (a : Key). RestedBy s (stepBy s a) now less) (sym (key-taken j h)) (record { long = C .long; calm = calm (sourceAt j) })
     where
       apart : (i : ℕ) → has gone i ≡ false → rivals s (s .actions k) (s .actions i) ≡ false
       apart i g =
-          elim (decLt i (s .count)) [
-            | yes l ↦ ap (λ (a : Action). rivals s a (s .actions i)) z ∙ sym (set i ∙ rw (lt-ltb i (s .count) l)) ∙ g
-            | no l ↦ sym (rivals-second s (s .actions k) (s .actions i) 0 (sym (ap kindOf (action-out c (s .count) acts s A i (omega arith)))) (λ b. omega arith))
+          elim (decLt i n) [
+            | yes l ↦ ap (λ (a : Action). rivals s a (s .actions i)) z ∙ sym (set i ∙ rw (lt-ltb i n l)) ∙ g
+            | no l ↦ sym (rivals-second s (s .actions k) (s .actions i) 0 (sym (ap kindOf (action-out c n acts s A i (omega arith)))) (λ b. omega arith))
           ]
 
       calm : (f : ℕ) (a : Key) → spentBy less a ≡ true → (spentBy now a ≡ true) × (wakes s (stepBy s (taking (actionAt j) f)) a ≡ false)
@@ -160,9 +160,9 @@ module _ (s : State) (now : List ℕ) (long : length now ≡ 50) where
       calm f (issuing p) y = (ap (λ (w : ℕ). has w p) (sym (C .others 49 (omega arith) (λ b. omega arith))) ∙ y, refl)
 
   -- an issue wakes that of its processor, and the last one every issue
-  pub rest-issue : (word j : ℕ) → 49 ≤ j / 64 → ((q : ℕ) → has word q ≡ (has (getD now 49 0) q && not (eqb q (j % 64) || leb 48 (suc (s .count))))) → RestedBy s (stepBy s (keyAt j)) now (set now 49 word)
+  pub rest-issue : (n word j : ℕ) → s .count ≡ n → 49 ≤ j / 64 → ((q : ℕ) → has word q ≡ (has (getD now 49 0) q && not (eqb q (j % 64) || leb 48 (suc n)))) → RestedBy s (stepBy s (keyAt j)) now (set now 49 word)
   unfolding spentBy
-  rest-issue word j h w = subst (λ (a : Key). RestedBy s (stepBy s a) now (set now 49 word)) (sym (key-issue (j / 64) (j % 64) h)) (record { long = simp length-set long; calm = calm })
+  rest-issue n word j count h w = subst (λ (a : Key). RestedBy s (stepBy s a) now (set now 49 word)) (sym (key-issue (j / 64) (j % 64) h)) (record { long = simp length-set long; calm = calm })
     where
       calm : (a : Key) → spentBy (set now 49 word) a ≡ true → (spentBy now a ≡ true) × (wakes s (issue (j % 64)) a ≡ false)
       calm (taking i x) y = (same (decide (ltb i 48)) y, refl)
@@ -174,5 +174,5 @@ module _ (s : State) (now : List ℕ) (long : length now ≡ 50) where
           same (inl l) y = rw (lone, getD-set-other now 49 i word 0 (λ b. omega (arith, ltb-true i 48 l))) at y
           same (inr l) y = rw l (rw (l, lone) at y)
       calm (issuing p) y =
-          let d = and-both (has (getD now 49 0) p) (not (eqb p (j % 64) || leb 48 (suc (s .count)))) (sym (w p) ∙ ap (λ (x : ℕ). has x p) (sym (getD-set-same now 49 word 0 (omega arith))) ∙ y) in
-          (d .0, not-true (eqb p (j % 64) || leb 48 (suc (s .count))) (d .1))
+          let d = and-both (has (getD now 49 0) p) (not (eqb p (j % 64) || leb 48 (suc n))) (sym (w p) ∙ ap (λ (x : ℕ). has x p) (sym (getD-set-same now 49 word 0 (omega arith))) ∙ y) in
+          (d .0, rw count (not-true (eqb p (j % 64) || leb 48 (suc n)) (d .1)))

@@ -1,7 +1,5 @@
 // The steps that are spent, as fifty words: asked for, one more noted, and what stays spent when a step is taken.
-use cases::Case;
 use machine::Entry;
-use machine::Machine;
 ghost use mathlib.Core.Path.{_≡_};
 ghost use mathlib.Core.Bool.{_&&_, _||_, not, cond};
 ghost use Prim.Native.Nat.{ℕ, suc, _/_, _%_, _≤_, _<_};
@@ -10,9 +8,10 @@ ghost use lib.ListN.{length};
 ghost use Rattle.words.specs.Sets.{has as inSet};
 ghost use Rattle.cases.specs.declared.Case.{Case as TheCase};
 ghost use Rattle.rules.specs.State.{State};
+ghost use Rattle.rules.specs.Step.{stepCode};
 ghost use Rattle.sure.specs.Spent.{stepBy, rivals as areRivals};
 ghost use Rattle.orders.specs.Rows.{SetOf};
-ghost use Rattle.machine.specs.Shown.{shownEntry, shown, Presets, Acts};
+ghost use Rattle.machine.specs.Shown.{shownEntry, Presets, Acts};
 ghost use Rattle.spending.specs.Words.{keyAt, spentBy};
 ghost use Rattle.spending.specs.Spending.{Noted, RestedBy, Cleared};
 ghost use Rattle.spending.specs.Given.{Noting, Resting};
@@ -144,11 +143,17 @@ fn still_spent(x: u64, issued: usize, p: usize) -> u64
 }
 
 // Leaves what stays spent when the step at position j is taken: an issue and an acquire's commit alone wake steps.
-pub fn rest(c: Case, m: Machine, spent: &mut [u64; 50], j: usize)
-    requires { ⌜ Resting c m (now spent) j ⌝ }
-    ensures { λ _. ⌜ RestedBy (shown c m) (stepBy (shown c m) (keyAt j)) (now (spent .entry)) (now (spent .exit)) ⌝ }
+pub fn rest<'a, 'b>(
+    masks: &'a [u8; 4],
+    presets: &'a [u16; 32],
+    acts: &'a [u64; 48],
+    issued: usize,
+    spent: &'b mut [u64; 50],
+    j: usize,
+)
+    requires { ⌜ Resting issued (now spent) j ⌝ }
+    ensures { λ _. ⌜ ((c : TheCase) (s : State) → Presets c (now (masks .entry)) (now (presets .entry)) → Acts c issued (now (acts .entry)) s → stepCode c s (stepBy s (keyAt j)) ≡ 0 → RestedBy s (stepBy s (keyAt j)) (now (spent .entry)) (now (spent .exit))) ⌝ }
 {
-    let issued = m.issued;
     if 49 <= j / 64 {
         let issues = spent[49];
         spent[49] = still_spent(issues, issued, j % 64);
@@ -158,10 +163,10 @@ pub fn rest(c: Case, m: Machine, spent: &mut [u64; 50], j: usize)
     if issued <= k {
         return;
     }
-    if machine::kind_at(&m.acts, k) != 6 {
+    if machine::kind_at(acts, k) != 6 {
         return;
     }
-    let e = machine::entry_at(&m.acts, k);
-    let gone = woken(&c.masks, &c.presets, &m.acts, issued, e);
+    let e = machine::entry_at(acts, k);
+    let gone = woken(masks, presets, acts, issued, e);
     clear(spent, gone);
 }

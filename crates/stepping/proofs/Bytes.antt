@@ -1,5 +1,5 @@
 -- The step that four bytes say. Assumes nothing.
-use mathlib.Core.Path.{_≡_, refl, sym, ap}
+use mathlib.Core.Path.{_≡_, refl, sym, _∙_, ap}
 use mathlib.Core.Logic.{⊎-elim}
 use mathlib.Core.Bool.{Bool, true, false, cond, _&&_}
 use mathlib.Core.List.{_∷_}
@@ -21,10 +21,10 @@ and-no true = refl
 and-no false = refl
 
 module _ (kind p k e : ℕ) where
-  pub step-issue : kind ≡ 0 → k ≡ 0 → e ≡ 0 → issue p ≡ stepOf kind p k e
+  step-issue : kind ≡ 0 → k ≡ 0 → e ≡ 0 → issue p ≡ stepOf kind p k e
   step-issue h q r = rw (h, q, r)
 
-  pub step-commit : kind ≡ 1 → commit p k e ≡ stepOf kind p k e
+  step-commit : kind ≡ 1 → commit p k e ≡ stepOf kind p k e
   step-commit h = rw h
 
   pub step-kind : 1 < kind → neither ≡ stepOf kind p k e
@@ -41,13 +41,21 @@ module _ (c : Case) (s : State) where
   unfolding stepCode
   code-neither t h = ap (stepCode c s) h
 
-  pub code-issue : (p : ℕ) → p < c .procs → firstOf (issueRefusals c s p) ≡ stepCode c s (issue p)
+  code-issue : (p : ℕ) → p < c .procs → firstOf (issueRefusals c s p) ≡ stepCode c s (issue p)
   unfolding stepCode firstOf
   code-issue p h = rw (lt-leb (c .procs) p h)
 
-  pub code-commit : (p k e : ℕ) → p < c .procs → firstOf (commitRefusals c s p k e) ≡ stepCode c s (commit p k e)
+  code-commit : (p k e : ℕ) → p < c .procs → firstOf (commitRefusals c s p k e) ≡ stepCode c s (commit p k e)
   unfolding stepCode firstOf
   code-commit p k e h = rw (lt-leb (c .procs) p h)
+
+  -- with the bytes widened
+  pub issue-code : (kind p k e q : ℕ) → kind ≡ 0 → k ≡ 0 → e ≡ 0 → q ≡ p → p < c .procs → firstOf (issueRefusals c s q) ≡ stepCode c s (stepOf kind p k e)
+  issue-code kind p k e q z hk he hq lt = ap (λ (n : ℕ). firstOf (issueRefusals c s n)) hq ∙ code-issue p lt ∙ ap (stepCode c s) (step-issue kind p k e z hk he)
+
+  pub commit-code : (kind p k e q j i : ℕ) → kind ≤ 1 → (kind ≡ 0 → ⊥) → q ≡ p → j ≡ k → i ≡ e → p < c .procs → firstOf (commitRefusals c s q j i) ≡ stepCode c s (stepOf kind p k e)
+  commit-code kind p k e q j i le z hq hj hi lt =
+      (λ t. firstOf (commitRefusals c s (hq t) (hj t) (hi t))) ∙ code-commit p k e lt ∙ ap (stepCode c s) (step-commit kind p k e (omega arith))
 
   absent : (a b : Bool) (p k e : ℕ) → c .procs ≤ p → 20 ≡ stepCode c s (cond a (issue p) (cond b (commit p k e) neither))
   unfolding stepCode
@@ -83,6 +91,3 @@ module _ (c : Case) (s : State) where
 
   pub commit-accepted : (kind p k e : ℕ) → (kind ≡ 0 → ⊥) → stepCode c s (stepOf kind p k e) ≡ 0 → stepOf kind p k e ≡ commit p k e
   commit-accepted kind p k e h go = commit-formed kind p k e h (λ q. omega (arith, q, go))
-
-pub one : (n : ℕ) → n ≤ 1 → (n ≡ 0 → ⊥) → n ≡ 1
-one n h q = omega arith

@@ -17,6 +17,7 @@ use Rattle.machine.specs.Word.{entryOf}
 use Rattle.machine.specs.Shown.{placeOf, shown}
 use Rattle.machine.specs.Valid.{Valid}
 use Rattle.machine.proofs.Entries.{action-at}
+use Rattle.stepping.specs.Coded.{Placing}
 use Rattle.stepping.proofs.Bytes.{issue-formed, commit-formed}
 
 defined : (n : ℕ) → isNone (placeOf n) ≡ false → n ≡ orZero (placeOf n)
@@ -43,7 +44,7 @@ module _ (c : Case) (m : Machine) (v : Valid c m) (kind p k e code : ℕ) (is : 
       there : (p < c .procs) × (isNone (s .places p) ≡ false)
       there = issue-named c s p (subst (λ (u : Step). naming (stepCode c s u) ≡ true) one named)
 
-      pub issue-low : p < 4
+      issue-low : p < 4
       issue-low = omega (arith, v .fit .procs, there .0)
 
       pub issue-place : getD (m .places) p 0 ≡ stepPlace c s t
@@ -56,9 +57,13 @@ module _ (c : Case) (m : Machine) (v : Valid c m) (kind p k e code : ℕ) (is : 
       old : k < m .issued
       old = commit-named c s p k e (subst (λ (u : Step). naming (stepCode c s u) ≡ true) other named)
 
-      pub commit-low : k < 48
+      commit-low : k < 48
       commit-low = omega (arith, v .issued, old)
 
       pub commit-place : entryOf (getD (m .acts) k 0) .place ≡ stepPlace c s t
       commit-place =
           sym (place-named c s t named ∙ ap (placeIn c s) other ∙ ap (λ (a : Action). a .place) (action-at c (m .issued) (m .acts) s (record { count = refl; actions = refl }) k old))
+
+  -- so the place can be asked for
+  pub placing : Placing kind p k code
+  placing = record { issue = issue-low; commit = commit-low }

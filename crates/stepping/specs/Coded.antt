@@ -1,13 +1,29 @@
--- What the place of a step is asked of. Assumes nothing.
+-- What a step is asked of, and what it is taken on. Assumes nothing.
 use mathlib.Core.Path.{_≡_}
-use Prim.Native.Nat.{ℕ}
+use mathlib.Core.Bool.{true}
+use mathlib.Core.List.{List}
+use Prim.Native.Nat.{ℕ, _≤_, _<_}
+use lib.ListN.{length, getD}
 use Rattle.cases.specs.declared.Case.{Case}
-use Rattle.rules.specs.Step.{Step, stepCode}
-use Rattle.machine.specs.declared.Machine.{Machine}
-use Rattle.machine.specs.Shown.{shown}
-use Rattle.machine.specs.Valid.{Valid}
+use Rattle.rules.specs.Step.{Step, naming}
+use Rattle.machine.specs.Given.{Accepted}
+use Rattle.machine.specs.Lent.{machineOf, Program}
 
--- A machine, and the code that a step of it gets.
-pub record Coded (c : Case) (m : Machine) (t : Step) (code : ℕ) : Type 0 where
-  pub valid : Valid c m
-  pub is : code ≡ stepCode c (shown c m) t
+-- Counts, processors and a number of actions that a case can have, and the names and holders at their number.
+pub record Asking (counts names holders : List ℕ) (procs n : ℕ) : Type 0 where
+  pub issued : n ≤ 48
+  pub few : procs ≤ 4
+  pub counted : (p : ℕ) → getD counts p 0 ≤ 12
+  pub names-long : length names ≡ 32
+  pub holders-long : length holders ≡ 8
+
+-- A code that names an instruction is one of a processor's issue or of an action's commit.
+pub record Placing (kind proc action code : ℕ) : Type 0 where
+  pub issue : naming code ≡ true → kind ≡ 0 → proc < 4
+  pub commit : naming code ≡ true → (kind ≡ 0 → ⊥) → action < 48
+
+-- Arrays of a case's program and of a machine that accepts the step t.
+pub record Taking (program places names holders acts rows sets : List ℕ) (n : ℕ) (t : Step) : Type 0 where
+  pub case : Case
+  pub coded : Program case program
+  pub accepted : Accepted case (machineOf n places names holders acts rows sets) t

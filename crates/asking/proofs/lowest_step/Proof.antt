@@ -14,10 +14,10 @@ use Rattle.asking.proofs.first_in_reach.Reads as first-in-reach-reads
 use Rattle.asking.proofs.row_span.Reads as row-span-reads
 
 abbrev Inv-loop : tie.InvT-loop
-Inv-loop c m n ahead asked i₀ i = Passed c (wanted asked) (shown c m) (n - 1) i
+Inv-loop c program m n ahead asked i₀ i = Passed c (wanted asked) (shown c m) (n - 1) i
 
 abbrev μ-loop : tie.MeasureT-loop
-μ-loop c m n ahead asked i₀ i = 193 - i
+μ-loop c program m n ahead asked i₀ i = 193 - i
 
 -- src/lib.rt:134:5
 loop-holds : tie.Need-loop-holds Inv-loop μ-loop

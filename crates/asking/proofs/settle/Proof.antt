@@ -21,27 +21,33 @@ forward-requires : tie.Need-forward-requires
 forward-requires c κs = search needs
 
 -- src/lib.rt:210:29
+program-requires : tie.Need-program-requires
+program-requires c κs = search needs
+
 start-requires : tie.Need-start-requires
 start-requires c κs = search needs
 
 -- src/lib.rt:210:9
 within-reach-requires : tie.Need-within-reach-requires
 within-reach-requires c κs =
-    let at-forward = c .before in
+    let at-program = c .before .before in
+    let at-forward = at-program .before in
     let start = at-forward .before .before .before .before .before .before in
-    standing-start (c .start .ensures) (at-forward .forward .ensures) (start .pre .few) (start .pre .asks)
+    standing-start (at-program .program .ensures) (c .start .ensures) (at-forward .forward .ensures) (start .pre .few) (start .pre .asks)
 
 -- src/lib.rt:215:19
 lowest-requires : tie.Need-lowest-requires
 lowest-requires c κs =
-    let at-if = c .before in
+    let at-if = c .before .before in
     let at-reach = at-if .before in
     let at-start = at-reach .before in
-    let at-forward = at-start .before in
+    let at-program = at-start .before .before in
+    let at-forward = at-program .before in
     let at-clear = at-forward .before .before .before in
     let start = at-clear .before .before .before in
     record {
       fit = start .pre .fit;
+      coded = at-program .program .ensures;
       forwards = at-forward .forward .ensures;
       few = start .pre .few;
       asks = start .pre .asks;
@@ -57,7 +63,7 @@ same-length c = search needs
 returns : tie.Need-returns
 returns c =
     let at-lowest = c .before .before in
-    let at-if = at-lowest .before .before in
+    let at-if = at-lowest .before .before .before in
     let at-reach = at-if .before in
     let at-start = at-reach .before in
     (settled-yes (at-start .start .ensures .0) (at-reach .within-reach .ensures) (at-if .if1 .taken) (at-lowest .lowest .ensures), refl)
@@ -71,7 +77,7 @@ returns-2 : tie.Need-returns-2
 returns-2 c =
     let at-reach = c .before in
     let at-start = at-reach .before in
-    let at-clear = at-start .before .before .before .before in
+    let at-clear = at-start .before .before .before .before .before .before in
     let start = at-clear .before .before .before in
     (settled-no (at-start .start .ensures .0) (at-reach .within-reach .ensures) (c .if1 .left) (all-clear (start .args .out .now) (at-clear .clear .ensures) (start .pre .long)), refl)
 
@@ -81,6 +87,7 @@ settle-spec =
     (tie.spec
     clear-requires
     forward-requires
+    program-requires
     start-requires
     within-reach-requires
     lowest-requires

@@ -17,14 +17,14 @@ slice-aggregate-explore c = search needs
 
 -- src/lib.rt:60:9
 explore-requires : tie.Need-explore-requires
-explore-requires c κs = ready-ask (c .before .before .pre) refl
+explore-requires c κs = ready-ask (c .before .before .before .before .before .before .before .before .before .pre) refl
 
 -- src/lib.rt:50:1
 returns : tie.Need-returns
 returns c =
     let at-explore = c .before in
-    let a = at-explore .before .before .before .args in
-    reach-of (a .c) (wanted (a .asked)) (shown (a .c) (a .m)) (a .n) refl (searched-start (at-explore .explore .ensures))
+    let a = at-explore .before .before .before .before .before .before .before .before .before .before .args in
+    reach-of (a .c) (wanted (a .asked)) (shown (a .c) (a .t3)) (a .n) refl (searched-start (at-explore .explore .ensures))
 
 pub within-reach-spec : {M : Type 1} → statement M
 within-reach-spec = tie.close (tie.spec slice-aggregate-explore explore-requires returns)

@@ -1,7 +1,7 @@
 use borrow.Author.Needs.{needs}
 use Rattle.machine.proofs.Answers.{at-count}
 use Rattle.machine.proofs.Listing.{all-next}
-use Rattle.choices.specs.Given.{Ending}
+use Rattle.machine.specs.Lent.{Ending}
 use Rattle.cases.specs.declared.Case.{Case}
 use Rattle.sure.specs.Quiet.{ended as hasEnded}
 use Rattle.rules.specs.State.{State}

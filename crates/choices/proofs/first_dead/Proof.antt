@@ -1,6 +1,6 @@
 use borrow.Author.Needs.{needs}
 use Rattle.choices.proofs.Answers.{dead-at}
-use Rattle.choices.proofs.Opens.{entry-in}
+use Rattle.openings.proofs.Opens.{entry-in}
 use Rattle.committing.proofs.Refusing.{loc-low}
 use Rattle.words.specs.Sets.{has}
 use lib.ListN.{getD}

@@ -1,5 +1,5 @@
 use borrow.Author.Needs.{needs}
-use Rattle.choices.proofs.Opens.{entry-in}
+use Rattle.openings.proofs.Opens.{entry-in}
 use Rattle.committing.proofs.Refusing.{loc-low}
 use lib.ListN.{getD}
 use native.Mathlib.Omega.{arith}
@@ -25,8 +25,8 @@ loop-holds c = c .first-of .ensures .upto
 entry-at-requires : tie.Need-entry-at-requires Inv-loop μ-loop
 entry-at-requires c κs = search needs
 
-settled-read-requires : tie.Need-settled-read-requires Inv-loop μ-loop
-settled-read-requires c κs =
+settled-sources-requires : tie.Need-settled-sources-requires Inv-loop μ-loop
+settled-sources-requires c κs =
     let at = c .before .before in
     let b = at .before .before .before in
     let l : at .loop .k < b .args .issued = omega (arith, c .before .loop-test .taken) in
@@ -34,12 +34,16 @@ settled-read-requires c κs =
 
 returns : tie.Need-returns Inv-loop μ-loop
 returns c =
+    let v = c .before .settled-sources in
+    let i = c .before .before .entry-at in
     let at = c .before .before .before .before in
     let b = at .before .before .before in
     let a = b .args in
     let k = at .loop .k in
-    let l : k < a .issued = omega (arith, c .before .before .before .loop-test .taken) in
-    (omega (arith, l, b .pre .issued), λ t s E z. c .before .settled-read .ensures t s (entry-in t s (a .masks .now) (a .rows .now) (a .sets .now) (a .procs) (a .issued) (a .acts .now) E (b .pre .issued) k l (c .before .before .entry-at .result) (c .before .before .entry-at .ensures)) (c .if1 .taken))
+    let l : k < a .issued = omega (arith, c .before .before .before .loop-test .taken) in (
+      omega (arith, l, b .pre .issued),
+      λ t s E z. let w = v .ensures t s (entry-in t s (a .masks .now) (a .rows .now) (a .sets .now) (a .procs) (a .issued) (a .acts .now) E (b .pre .issued) k l (i .result) (i .ensures)) (c .if1 .taken) in record { read = w .0; some = c .if1 .taken; seen = w .1 },
+    )
 
 add-first-of : tie.Need-add-first-of Inv-loop μ-loop
 add-first-of c = search needs
@@ -66,7 +70,7 @@ first-settled-spec =
     first-of-requires
     loop-holds
     entry-at-requires
-    settled-read-requires
+    settled-sources-requires
     returns
     add-first-of
     first-of-requires-2

@@ -1,5 +1,5 @@
 use borrow.Author.Needs.{needs}
-use Rattle.choices.proofs.Queued.{stay, jump}
+use Rattle.choices.proofs.Next.{stay, jump}
 use native.Mathlib.Omega.{arith}
 use Prim.Native.Nat.{_*_}
 use Rattle.choices.proofs.next_word.Statement.{statement}

@@ -1,7 +1,7 @@
 use Rattle.choices.proofs.Answers.{sure-lone, sure-issue, sure-dead}
-use Rattle.choices.proofs.Opens.{arrays-of, entries-of, issue-accepts}
+use Rattle.openings.proofs.Opens.{arrays-of, entries-of, issue-accepts}
 use Rattle.machine.specs.Shown.{shown}
-use Prim.Native.Nat.{_-_}
+use Rattle.machine.specs.Lent.{machineOf}
 use mathlib.Core.Path.{refl, sym}
 use borrow.Author.Needs.{needs}
 use Rattle.choices.proofs.sure_step.Statement.{statement}
@@ -15,44 +15,46 @@ add-result c = search needs
 
 returns : tie.Need-returns
 returns c =
-    let b = c .before .before .before .before .before .before .before .before .before .before in
-    let a = b .args in
-    let s = shown (a .t1) (a .t2) in
-    sure-lone (a .t1) s (a .marked) (a .n) (c .before .sure-commit .result) (c .before .sure-commit .ensures (a .t1) s (arrays-of (a .t1) (a .t2) (b .pre .valid))) (c .if1 .taken)
+    let k = c .before .sure-commit in
+    let a = c .before .before .args in
+    let m = machineOf (a .issued) (a .places .now) (a .names .now) (a .holders .now) (a .acts .now) (a .rows .now) (a .sets .now) in
+    λ t L q v. sure-lone t (shown t m) (a .marked) (a .n) (k .result) (k .ensures t (shown t m) (arrays-of t m v (a .program .now) (a .counts .now) (a .masks .now) (a .presets .now) (a .procs) (a .locs) L)) (c .if1 .taken)
 
 add-if2 : tie.Need-add-if2
 add-if2 c = search needs
 
 issuer-requires : tie.Need-issuer-requires
-issuer-requires c κs = search needs
+issuer-requires c κs = let p = c .before .before .before .pre .asking in record { issued = p .issued; few = p .few; counted = p .counted; names-long = p .names-long }
 
 add-result-2 : tie.Need-add-result-2
 add-result-2 c = search needs
 
 returns-2 : tie.Need-returns-2
 returns-2 c =
-    let u = c .before .before .before .before .before .before .before .before in
-    let b = u .before .before .before .before .before .before .before .before .before in
-    let a = b .args in
-    let s = shown (a .t1) (a .t2) in
-    sure-issue (a .t1) s (a .marked) (a .n) (u .sure-commit .result) (u .sure-commit .ensures (a .t1) s (arrays-of (a .t1) (a .t2) (b .pre .valid))) (c .before .issuer .result) (c .if3 .taken)
-    (issue-accepts (a .t1) s (c .before .issuer .result) (c .before .issuer .ensures s (record { count = refl; actions = refl }) refl refl (c .if3 .taken)))
-    (rw (sym (b .pre .forwards)) (c .before .before .before .before .before .before .if2 .taken))
+    let p = c .before .issuer in
+    let k = c .before .before .before .before .sure-commit in
+    let a = c .before .before .before .before .before .args in
+    let m = machineOf (a .issued) (a .places .now) (a .names .now) (a .holders .now) (a .acts .now) (a .rows .now) (a .sets .now) in
+    λ t L q v.
+    let s = shown t m in
+    sure-issue t s (a .marked) (a .n) (k .result) (k .ensures t s (arrays-of t m v (a .program .now) (a .counts .now) (a .masks .now) (a .presets .now) (a .procs) (a .locs) L)) (p .result) (c .if3 .taken)
+    (issue-accepts t s (p .result) (p .ensures t s L (record { count = refl; actions = refl }) refl refl (c .if3 .taken)))
+    (rw (sym q) (c .before .before .if2 .taken))
 
 first-dead-requires : tie.Need-first-dead-requires
-first-dead-requires c κs =
-    let v = c .before .before .before .before .before .before .before .before .before .before .before .before .before .before .before .before .before .before .pre .valid in
-    record { issued = v .issued; few = v .fit .procs; names-long = v .names-long }
+first-dead-requires c κs = search needs
 
 returns-3 : tie.Need-returns-3
 returns-3 c =
-    let w = c .before .before .before .before .before .before .before .before .before in
-    let u = w .before in
-    let b = u .before .before .before .before .before .before .before .before .before in
-    let a = b .args in
-    let s = shown (a .t1) (a .t2) in
-    sure-dead (a .t1) s (a .marked) (a .n) (u .sure-commit .result) (u .sure-commit .ensures (a .t1) s (arrays-of (a .t1) (a .t2) (b .pre .valid))) (w .if1 .left)
-    (c .first-dead .result) (c .first-dead .ensures (a .t1) s (entries-of (a .t1) (a .t2) (b .pre .valid)) refl)
+    let d = c .first-dead in
+    let w = c .before .before in
+    let k = w .before .sure-commit in
+    let a = w .before .before .args in
+    let m = machineOf (a .issued) (a .places .now) (a .names .now) (a .holders .now) (a .acts .now) (a .rows .now) (a .sets .now) in
+    λ t L q v.
+    let s = shown t m in
+    sure-dead t s (a .marked) (a .n) (k .result) (k .ensures t s (arrays-of t m v (a .program .now) (a .counts .now) (a .masks .now) (a .presets .now) (a .procs) (a .locs) L)) (w .if1 .left)
+    (d .result) (d .ensures t s (entries-of t m v (a .program .now) (a .counts .now) (a .masks .now) (a .presets .now) (a .procs) (a .locs) L) refl)
 
 pub sure-step-spec : {M : Type 1} → statement M
 sure-step-spec =

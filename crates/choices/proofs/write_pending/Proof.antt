@@ -1,5 +1,5 @@
 use borrow.Author.Needs.{needs}
-use Rattle.choices.proofs.Queued.{pending-some}
+use Rattle.choices.proofs.Pending.{pending-some}
 use Rattle.choices.proofs.write_pending.Statement.{statement}
 use Rattle.choices.proofs.write_pending.Tie as tie
 

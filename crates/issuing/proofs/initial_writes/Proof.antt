@@ -1,8 +1,7 @@
 use mathlib.Core.Path.{_≡_, _∙_, sym, ap, subst}
-use mathlib.Core.Bool.{true, false, _||_}
+use mathlib.Core.Bool.{_||_}
 use Prim.Native.Nat.{ℕ, _^_}
 use lib.Dec.{eqb}
-use Rattle.rules.specs.Kinds.{kind, accesses, syncs}
 use Rattle.rules.specs.State.{standsAt}
 use Rattle.orders.specs.Rows.{SetOf}
 use Rattle.machine.specs.Shown.{shownEntry}

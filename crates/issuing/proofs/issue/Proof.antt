@@ -1,103 +1,103 @@
-use mathlib.Core.Path.{_≡_, _∙_, sym, ap, refl, subst}
-use Prim.Native.Nat.{ℕ}
 use native.Mathlib.Omega.{arith}
-use lib.ListN.{getD}
-use Rattle.words.specs.Small.{put}
-use Rattle.cases.specs.declared.Instr.{Instr}
-use Rattle.cases.specs.Case.{instrAt}
-use Rattle.rules.specs.Kinds.{assigns}
-use Rattle.rules.specs.State.{Action, given}
-use Rattle.rules.specs.Issue.{renamed as renamedOf}
-use Rattle.machine.specs.Shown.{shown, shownEntry, namesOf}
-use Rattle.machine.specs.Fit.{Fine}
-use Rattle.issuing.specs.Issued.{fresh}
-use Rattle.issuing.proofs.Entering.{issue-low, issue-room, issue-inside, issue-fine, issue-new, issue-entry, issue-packable}
+use Rattle.issuing.proofs.Entering.{issue-low, issue-room, issue-place, issue-packs, issue-fine, grown-is}
 use borrow.Author.Needs.{needs}
 use Rattle.issuing.proofs.issue.Statement.{statement}
 use Rattle.issuing.proofs.issue.Tie as tie
 
 element-copy-out-place : tie.Need-element-copy-out-place
-element-copy-out-place c = let b = c in issue-low (b .args .t1) (b .args .t2) (b .args .p) (b .pre)
+element-copy-out-place c = issue-low (c .pre .accepted)
 
-mul-s : tie.Need-mul-s
-mul-s c = let b = c .before in let q = issue-low (b .args .t1) (b .args .t2) (b .args .p) (b .pre) in search needs
+mul-instr-at : tie.Need-mul-instr-at
+mul-instr-at c = let low = issue-low (c .before .pre .accepted) in search needs
 
 wide-requires : tie.Need-wide-requires
 wide-requires c κs = search needs
 
-add-s : tie.Need-add-s
-add-s c = let b = c .before .before in let q = issue-low (b .args .t1) (b .args .t2) (b .args .p) (b .pre) in search needs
+add-instr-at : tie.Need-add-instr-at
+add-instr-at c = let low = issue-low (c .before .before .pre .accepted) in search needs
 
-mul-s-2 : tie.Need-mul-s-2
-mul-s-2 c =
-    let b = c .before .before in
-    let q = issue-low (b .args .t1) (b .args .t2) (b .args .p) (b .pre) in
-    let i = issue-inside (b .args .t1) (b .args .t2) (b .args .p) (b .pre) in
-    search needs
+instr-at-requires : tie.Need-instr-at-requires
+instr-at-requires c κs = let ok = c .before .before .pre .accepted in omega (arith, issue-low ok, issue-place ok, c .wide .ensures .0)
 
-element-copy-out-s : tie.Need-element-copy-out-s
-element-copy-out-s c =
-    let b = c .before .before in
-    omega (arith, issue-low (b .args .t1) (b .args .t2) (b .args .p) (b .pre), issue-inside (b .args .t1) (b .args .t2) (b .args .p) (b .pre), b .pre .valid .fit .counts (b .args .p), c .wide .ensures .0)
-
-renamed-requires : tie.Need-renamed-requires
-renamed-requires c κs =
-    let b = c .before .before .before .before in
-    let a = b .args in
-    let v = b .pre .valid in
+rename-requires : tie.Need-rename-requires
+rename-requires c κs =
+    let code = c .before .before in
+    let b = code .before .before .before in
+    let ok = b .pre .accepted in
     record {
-      names-long = v .names-long;
-      names-low = v .names;
-      proc = issue-low (a .t1) (a .t2) (a .p) (b .pre);
-      action = issue-room (a .t1) (a .t2) (a .p) (b .pre);
-      fine = subst (λ (n : ℕ). Fine (instrAt (a .t1) (a .p) n)) (sym (c .before .before .wide .ensures .0)) (issue-fine (a .t1) (a .t2) (a .p) (b .pre));
+      names-long = ok .valid .names-long;
+      names-low = ok .valid .names;
+      proc = issue-low ok;
+      action = issue-room ok;
+      fine = issue-fine ok (b .pre .coded) (code .before .wide .ensures .0) (code .instr-at .ensures);
     }
 
 new-entry-requires : tie.Need-new-entry-requires
 new-entry-requires c κs =
-    let r = c .before .before .before .before .before .before in
-    let b = r .before .before .before .before .before in
-    let a = b .args in
-    let v = b .pre .valid in
+    let code = c .before .before .before .before .before in
+    let b = code .before .before .before in
+    let ok = b .pre .accepted in
     record {
-      issued = v .issued;
+      issued = ok .valid .issued;
       names-long = search needs;
-      proc = issue-low (a .t1) (a .t2) (a .p) (b .pre);
-      fine = subst (λ (n : ℕ). Fine (instrAt (a .t1) (a .p) n)) (sym (r .before .before .before .wide .ensures .0)) (issue-fine (a .t1) (a .t2) (a .p) (b .pre));
+      proc = issue-low ok;
+      fine = issue-fine ok (b .pre .coded) (code .before .wide .ensures .0) (code .instr-at .ensures);
     }
 
-enter-requires : tie.Need-enter-requires
-enter-requires c κs =
-    let r = c .before .before .before .before .before .before .before in
-    let b = r .before .before .before .before .before in
-    let a = b .args in
-    let w = r .before .before .before .wide .ensures .0 in
-    let h = subst (λ (n : ℕ). shownEntry (a .t1) (c .new-entry .result) ≡ fresh (shown (a .t1) (a .t2)) (a .p) (getD (a .t2 .places) (a .p) 0) (instrAt (a .t1) (a .p) n)) w (c .new-entry .ensures .shows (a .t1) (shown (a .t1) (a .t2)) (record { masks = refl; presets = refl }) (record { count = refl; actions = refl }) refl) in
-    let n = ap (λ (i : Instr). put (namesOf (a .t1) (a .t2 .names)) (a .p) (renamedOf (namesOf (a .t1) (a .t2 .names) (a .p)) (assigns i) (given (a .t2 .issued)))) (ap (instrAt (a .t1) (a .p)) w ∙ sym (ap (λ (x : Action). x .instr) h)) in
-    record {
-      accepted = b .pre;
-      new = issue-new (a .t1) (a .t2) (a .p) (b .pre) (c .new-entry .result) h;
-      entry = issue-entry (a .t1) (a .t2) (a .p) (b .pre) (c .new-entry .result) h;
-      packable = issue-packable (a .t1) (a .t2) (a .p) (b .pre) (c .new-entry .result) h (c .new-entry .ensures .first (b .pre .valid .names)) (c .new-entry .ensures .second (b .pre .valid .names));
-      names-long = r .renamed .ensures .long;
-      names-low = r .renamed .ensures .low;
-      renames = r .renamed .ensures .shows (a .t1) ∙ n;
-    }
+join-order-requires : tie.Need-join-order-requires
+join-order-requires c κs =
+    let bound = c .before .before in
+    let ok = bound .before .before .before .before .before .before .before .before .before .pre .accepted in
+    record { room = issue-room ok; rows-long = ok .valid .rows-long; loc = issue-packs ok (bound .new-entry .ensures) .loc }
+
+join-sets-requires : tie.Need-join-sets-requires
+join-sets-requires c κs =
+    let bound = c .before .before .before .before in
+    let ok = bound .before .before .before .before .before .before .before .before .before .pre .accepted in
+    let packs = issue-packs ok (bound .new-entry .ensures) in
+    record { sets-long = ok .valid .kept .long; room = issue-room ok; proc = packs .proc; loc = packs .loc }
+
+packed-requires : tie.Need-packed-requires
+packed-requires c κs = let bound = c .before .before .before .before .before in issue-packs (bound .before .before .before .before .before .before .before .before .before .pre .accepted) (bound .new-entry .ensures)
+
+mul-acts : tie.Need-mul-acts
+mul-acts c = omega (arith, issue-room (c .before .before .before .before .before .before .before .before .before .before .before .before .before .before .before .pre .accepted))
+
+element-write-acts : tie.Need-element-write-acts
+element-write-acts c = let ok = c .before .before .before .before .before .before .before .before .before .before .before .before .before .before .before .pre .accepted in omega (arith, issue-room ok, ok .valid .acts-long)
+
+place-after-requires : tie.Need-place-after-requires
+place-after-requires c κs = issue-place (c .before .before .before .before .before .before .before .before .before .before .before .before .before .before .before .pre .accepted)
+
+element-write-places : tie.Need-element-write-places
+element-write-places c = let ok = c .before .before .before .before .before .before .before .before .before .before .before .before .before .before .before .before .pre .accepted in omega (arith, issue-low ok, ok .valid .places-long)
 
 returns : tie.Need-returns
-returns c = c .enter .ensures
+returns c =
+    let kept = c .before .before in
+    let ordered = kept .before .before in
+    let bound = ordered .before .before .before in
+    let renamed = bound .before .before .before in
+    let code = renamed .before .before .before in
+    λ k holders coded starts ok.
+    grown-is ok coded (code .before .wide .ensures .0) (code .instr-at .ensures) (c .before .packed .result) starts (bound .new-entry .ensures) (c .place-after .ensures) (c .before .packed .ensures) (renamed .rename .ensures) (ordered .join-order .ensures) (kept .join-sets .ensures)
 
 pub issue-spec : {M : Type 1} → statement M
 issue-spec =
     tie.close
     (tie.spec
     element-copy-out-place
-    mul-s
+    mul-instr-at
     wide-requires
-    add-s
-    mul-s-2
-    element-copy-out-s
-    renamed-requires
+    add-instr-at
+    instr-at-requires
+    rename-requires
     new-entry-requires
-    enter-requires
+    join-order-requires
+    join-sets-requires
+    packed-requires
+    mul-acts
+    element-write-acts
+    place-after-requires
+    element-write-places
     returns)

@@ -1,13 +1,12 @@
-use mathlib.Core.Path.{_≡_, refl, _∙_, ap}
-use Prim.Native.Nat.{ℕ, _+_, _*_}
+use mathlib.Core.Path.{_≡_, _∙_, ap}
+use Prim.Native.Nat.{ℕ, _+_, _*_, _%_}
 use native.Mathlib.Omega.{arith}
 use lib.ListN.{getD}
-use Rattle.words.specs.Refusals.{firstOf}
-use Rattle.cases.specs.Case.{instrAt}
-use Rattle.rules.specs.Kinds.{kind, accesses, reads as readsOf}
+use Rattle.rules.specs.Kinds.{reads}
 use Rattle.rules.specs.State.{valueOf}
+use Rattle.machine.specs.Word.{instrFrom}
 use Rattle.machine.specs.Shown.{nameOf, shownValue}
-use Rattle.issuing.proofs.Refusing.{addressRefusals, code-undefined, code-end, code-full, code-rest}
+use Rattle.issuing.proofs.Refusing.{code-undefined, code-end, code-full, code-rest}
 use borrow.Author.Needs.{needs}
 use Rattle.issuing.proofs.issue_code.Statement.{statement}
 use Rattle.issuing.proofs.issue_code.Tie as tie
@@ -16,31 +15,34 @@ element-copy-out-place : tie.Need-element-copy-out-place
 element-copy-out-place c = search needs
 
 returns : tie.Need-returns
-returns c = let a = c .before .before .args in λ s h q n. code-undefined (a .t1) s (a .p) (getD (a .places .now) (a .p) 0) q (c .if1 .taken)
+returns c =
+    let a = c .before .before .args in
+    λ k s l h q n. code-undefined k s (a .p) (getD (a .places .now) (a .p) 0) q (c .if1 .taken)
 
 element-copy-out-if2 : tie.Need-element-copy-out-if2
 element-copy-out-if2 c = search needs
 
 returns-2 : tie.Need-returns-2
-returns-2 c = let a = c .before .before .before .before .args in λ s h q n. code-end (a .t1) s (a .p) (getD (a .places .now) (a .p) 0) q (c .before .before .if1 .left) (c .if2 .taken)
+returns-2 c =
+    let a = c .before .before .before .before .args in
+    λ k s l h q n. code-end k s (a .p) (getD (a .places .now) (a .p) 0) q (c .before .before .if1 .left) l (c .if2 .taken)
 
 returns-3 : tie.Need-returns-3
-returns-3 c = let a = c .before .before .before .before .before .args in λ s h q n. code-full (a .t1) s (a .p) (getD (a .places .now) (a .p) 0) q (c .before .before .before .if1 .left) (c .before .if2 .left) (omega (arith, h .count, c .if3 .taken))
+returns-3 c =
+    let a = c .before .before .before .before .before .args in
+    λ k s l h q n. code-full k s (a .p) (getD (a .places .now) (a .p) 0) q (c .before .before .before .if1 .left) l (c .before .if2 .left) (omega (arith, h .count, c .if3 .taken))
 
-mul-s : tie.Need-mul-s
-mul-s c = search needs
+mul-instr-at : tie.Need-mul-instr-at
+mul-instr-at c = search needs
 
 wide-requires : tie.Need-wide-requires
 wide-requires c κs = search needs
 
-add-s : tie.Need-add-s
-add-s c = search needs
+add-instr-at : tie.Need-add-instr-at
+add-instr-at c = search needs
 
-mul-s-2 : tie.Need-mul-s-2
-mul-s-2 c = search needs
-
-element-copy-out-s : tie.Need-element-copy-out-s
-element-copy-out-s c = let b = c .before .before .before .before .before .before in omega (arith, c .before .before .if2 .left, b .pre .fit .counts (b .args .p), b .pre .proc, c .wide .ensures .0)
+instr-at-requires : tie.Need-instr-at-requires
+instr-at-requires c κs = search needs
 
 first-read-requires : tie.Need-first-read-requires
 first-read-requires c κs = search needs
@@ -65,19 +67,24 @@ address-code-requires c κs = search needs
 
 returns-4 : tie.Need-returns-4
 returns-4 c =
-    let at-name = c .before .before .before .before .before in
-    let b = at-name .before .before .before .before .before .before .before .before .before .before in
+    let named = c .before in
+    let name = named .before in
+    let read = name .before .before in
+    let at-instr = read .before in
+    let room = at-instr .before .before in
+    let inside = room .before in
+    let there = inside .before .before in
+    let b = there .before .before in
     let a = b .args in
     let at = getD (a .places .now) (a .p) 0 in
-    let w : at-name .before .before .before .before .wide .result ≡ at = at-name .before .before .before .before .wide .ensures .0 in
-    let i = instrAt (a .t1) (a .p) at in
-    let r : at-name .before .wide2 .result ≡ getD (readsOf i) 0 0 = at-name .before .wide2 .ensures .0 ∙ at-name .before .before .first-read .ensures ∙ ap (λ (n : ℕ). getD (readsOf (instrAt (a .t1) (a .p) n)) 0 0) w in
-    let nm : at-name .name-at .result ≡ getD (a .names .now) (8 * a .p + getD (readsOf i) 0 0) 0 = at-name .name-at .ensures ∙ ap (λ (n : ℕ). getD (a .names .now) (8 * a .p + n) 0) r in
-    λ s h q n.
+    let i = at-instr .instr-at .result in
+    let from : i ≡ instrFrom (getD (a .program .now) (12 * a .p + at) 0 % 8388608) = at-instr .instr-at .ensures ∙ ap (λ (n : ℕ). instrFrom (getD (a .program .now) (12 * a .p + n) 0 % 8388608)) (at-instr .before .wide .ensures .0) in
+    let r : name .before .wide2 .result ≡ getD (reads i) 0 0 = name .before .wide2 .ensures .0 ∙ read .first-read .ensures in
+    let nm : name .name-at .result ≡ getD (a .names .now) (8 * a .p + getD (reads i) 0 0) 0 = name .name-at .ensures ∙ ap (λ (n : ℕ). getD (a .names .now) (8 * a .p + n) 0) r in
+    λ k s l h q n.
     c .address-code .ensures
-    ∙ ap (λ (x : ℕ). firstOf (addressRefusals (a .t1) (accesses (kind (instrAt (a .t1) (a .p) x))) (shownValue (c .before .named .result)))) w
-    ∙ code-rest (a .t1) s (a .p) at q (at-name .before .before .before .before .before .before .before .before .if1 .left) (a .names .now) (shownValue (c .before .named .result)) (b .pre .proc) n (b .pre .fit .fine (a .p) at (b .pre .proc) (at-name .before .before .before .before .before .before .if2 .left)) (at-name .before .before .before .before .before .before .if2 .left) (omega (arith, h .count, at-name .before .before .before .before .before .if3 .left))
-    (c .before .named .ensures (a .t1) s (record { masks = refl; presets = refl }) h ∙ ap (λ (x : ℕ). valueOf s (nameOf (a .t1) x)) nm)
+    ∙ code-rest k s (a .p) at q (there .if1 .left) l (a .names .now) i (shownValue (named .named .result)) (b .pre .proc) n from (inside .if2 .left) (omega (arith, h .count, room .if3 .left))
+    (named .named .ensures k s (l .starts) h ∙ ap (λ (x : ℕ). valueOf s (nameOf k x)) nm)
 
 pub issue-code-spec : {M : Type 1} → statement M
 issue-code-spec =
@@ -88,11 +95,10 @@ issue-code-spec =
     element-copy-out-if2
     returns-2
     returns-3
-    mul-s
+    mul-instr-at
     wide-requires
-    add-s
-    mul-s-2
-    element-copy-out-s
+    add-instr-at
+    instr-at-requires
     first-read-requires
     wide-requires-2
     mul-name-at

@@ -1,6 +1,7 @@
 use mathlib.Core.Path.{_≡_, _∙_, sym, ap}
 use mathlib.Core.Bool.{true, false, _||_}
 use Prim.Native.Nat.{ℕ, _%_}
+use native.Mathlib.Omega.{arith}
 use lib.Dec.{eqb}
 use Rattle.words.specs.Small.{orZero}
 use Rattle.rules.specs.Kinds.{kind, accesses}
@@ -23,12 +24,12 @@ cast-result c = search needs
 returns : tie.Need-returns
 returns c =
     let q : accesses (kind (c .before .before .before .before .args .i)) ≡ true = ap (λ (n : ℕ). eqb n 1 || eqb n 2) (sym (c .before .before .before .kind-of .ensures .0)) ∙ c .before .before .if1 .taken in
-    λ k s d h. rw q (ap (λ (n : ℕ). n % 256) (c .or-zero .ensures ∙ ap orZero (c .before .named .ensures k s d h)))
+    (omega arith, λ k s d h. rw q (ap (λ (n : ℕ). n % 8) (c .or-zero .ensures ∙ ap orZero (c .before .named .ensures k s d h))))
 
 returns-2 : tie.Need-returns-2
 returns-2 c =
     let q : accesses (kind (c .before .before .args .i)) ≡ false = ap (λ (n : ℕ). eqb n 1 || eqb n 2) (sym (c .before .kind-of .ensures .0)) ∙ c .if1 .left in
-    λ k s d h. rw q
+    (omega arith, λ k s d h. rw q)
 
 pub location-spec : {M : Type 1} → statement M
 location-spec =

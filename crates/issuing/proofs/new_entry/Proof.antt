@@ -54,13 +54,19 @@ returns c =
     let x = c .before .before .name-at .ensures in
     let y = c .before .name-at2 .ensures in
     record {
-      first = λ h. omega (arith, x, name-low (a .names .now) (8 * a .p + c .before .before .before .before .before .wide .result) (b .pre .names-long) h);
-      second = λ h. omega (arith, y, name-low (a .names .now) (8 * a .p + c .before .before .before .wide2 .result) (b .pre .names-long) h);
+      packs = λ h q. record {
+        fine = b .pre .fine;
+        proc = omega (arith, low);
+        place = q;
+        first = omega (arith, x, name-low (a .names .now) (8 * a .p + c .before .before .before .before .before .wide .result) (b .pre .names-long) h);
+        second = omega (arith, y, name-low (a .names .now) (8 * a .p + c .before .before .before .wide2 .result) (b .pre .names-long) h);
+        loc = c .location .ensures .0;
+      };
       shows = λ k s d h n.
           entry-fresh k s (a .p) (a .names .now) low n (a .i) (a .place) _ _ _ _ (b .pre .fine) (omega (arith, low))
           (x ∙ ap (λ (n : ℕ). getD (a .names .now) (8 * a .p + n) 0) u)
           (y ∙ ap (λ (n : ℕ). getD (a .names .now) (8 * a .p + n) 0) w)
-          (c .location .ensures k s d h);
+          (c .location .ensures .1 k s d h);
     }
 
 pub new-entry-spec : {M : Type 1} → statement M

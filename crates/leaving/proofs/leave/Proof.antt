@@ -1,9 +1,8 @@
-use mathlib.Core.Path.{refl, sym, _∙_, ap}
+use mathlib.Core.Path.{sym, _∙_, ap}
 use mathlib.Core.Bool.{Bool, _||_, false≢true}
 use Rattle.words.specs.Small.{someBelow}
 use Rattle.words.proofs.Bools.{and-make}
 use Rattle.sure.specs.Futile.{futile, drains, leaves}
-use Rattle.machine.specs.Shown.{shown}
 use borrow.Author.Needs.{needs}
 use Rattle.leaving.proofs.leave.Statement.{statement}
 use Rattle.leaving.proofs.leave.Tie as tie
@@ -18,7 +17,7 @@ minus-requires : tie.Need-minus-requires
 minus-requires c κs = search needs
 
 returns : tie.Need-returns
-returns c = λ t. absurd (false≢true t)
+returns c = λ k s q h w o t. absurd (false≢true t)
 
 drains-requires : tie.Need-drains-requires
 drains-requires c κs = search needs
@@ -29,17 +28,14 @@ some-futile-requires c κs = search needs
 returns-2 : tie.Need-returns-2
 unfolding leaves
 returns-2 c =
-    let at-then = c .before .before .before .before .before .before .before .before in
-    let at-drains = at-then .before in
-    let start = at-drains .before .before .before .before .before .before .before in
-    let a = start .args in
-    let s = shown (a .t1) (a .t2) in
-    λ t. and-make (someBelow (s .count) (futile s)) (a .marked || drains (a .n) s)
-    (c .some-futile .ensures (a .t1) s (record { masks = refl; presets = refl }) (record { count = refl; actions = refl }) (start .pre .0 .kept) refl t)
-    (ap (λ (b : Bool). a .marked || b) (sym (at-drains .drains .ensures (a .t1) s (start .pre .0 .kept) refl)) ∙ at-then .if2 .taken)
+    let at-drains = c .before .before in
+    let a = at-drains .before .before .before .before .before .args in
+    λ k s q h w o t. and-make (someBelow (s .count) (futile s)) (a .marked || drains (a .n) s)
+    (c .some-futile .ensures k s q h w o t)
+    (ap (λ (b : Bool). a .marked || b) (sym (at-drains .drains .ensures k s w (h .count))) ∙ c .before .if2 .taken)
 
 returns-3 : tie.Need-returns-3
-returns-3 c = λ t. absurd (false≢true t)
+returns-3 c = λ k s q h w o t. absurd (false≢true t)
 
 pub leave-spec : {M : Type 1} → statement M
 leave-spec =

@@ -1,11 +1,5 @@
-use mathlib.Core.Path.{ap, _∙_}
-use mathlib.Core.Bool.{Bool, _||_}
-use Prim.Native.Nat.{ℕ}
-use lib.ListN.{getD}
+use Rattle.orders.proofs.Joins.{up-to-in, up-to-out}
 use borrow.Author.Needs.{needs}
-use Rattle.words.specs.Sets.{has}
-use Rattle.words.proofs.Sets.{has-or, has-one}
-use Rattle.orders.proofs.Joins.{order-at}
 use Rattle.orders.proofs.up_to.Statement.{statement}
 use Rattle.orders.proofs.up_to.Tie as tie
 
@@ -19,13 +13,10 @@ one-requires : tie.Need-one-requires
 one-requires c κs = search needs
 
 returns : tie.Need-returns
-returns c =
-    let s = c .before .before in
-    λ a. has-or (c .one .result) (getD (s .args .rows .now) (s .args .e) 0) a
-    ∙ rw (order-at (s .args .rows .now) a (s .args .e) (s .pre))
-    (ap (λ (x : ℕ). has x a || has (getD (s .args .rows .now) (s .args .e) 0) a) (c .one .ensures)
-    ∙ ap (λ (y : Bool). y || has (getD (s .args .rows .now) (s .args .e) 0) a) (has-one (s .args .e) a))
+returns c = let a = c .before .before .before .args in up-to-in (a .rows .now) (a .e) (c .one .result) (c .before .before .if1 .taken) (c .one .ensures)
+
+returns-2 : tie.Need-returns-2
+returns-2 c = let a = c .before .args in up-to-out (a .rows .now) (a .e) (c .if1 .left)
 
 pub up-to-spec : {M : Type 1} → statement M
-up-to-spec =
-    tie.close (tie.spec mul-row element-copy-out-row one-requires returns)
+up-to-spec = tie.close (tie.spec mul-row element-copy-out-row one-requires returns returns-2)

@@ -17,9 +17,15 @@ Inv-loop out n r low₀ high₀ low high = (low ≤ high) × (high ≤ n) × Bet
 abbrev μ-loop : tie.MeasureT-loop
 μ-loop out n r low₀ high₀ low high = high - low
 
+after-last-requires : tie.Need-after-last-requires Inv-loop μ-loop
+after-last-requires c κs = search needs
+
+returns : tie.Need-returns Inv-loop μ-loop
+returns c = c .before .after-last .ensures (c .if1 .taken)
+
 loop-holds : tie.Need-loop-holds Inv-loop μ-loop
 loop-holds c =
-    let args = c .before .before .args in
+    let args = c .before .before .before .before .args in
     (omega arith, omega arith, between-all (args .out .now) (args .n) (args .r .now))
 
 sub-mid : tie.Need-sub-mid Inv-loop μ-loop
@@ -49,11 +55,11 @@ below-requires c κs = search needs
 -- what `below` says of the record at mid
 compared : (c : tie.After-below Inv-loop μ-loop) →
     let turn = c .before .before .before in
-    let args = turn .before .before .before .args in
+    let args = turn .before .before .before .before .before .args in
     c .below .result ≡ below (recordAt (args .out .now) (turn .loop .low + (turn .loop .high - turn .loop .low) / 2)) (args .r .now)
 compared c =
     let turn = c .before .before .before in
-    let args = turn .before .before .before .args in
+    let args = turn .before .before .before .before .before .args in
     let mid = turn .loop .low + (turn .loop .high - turn .loop .low) / 2 in
     c .below .ensures ∙ ap (λ (x : List ℕ). below x (args .r .now)) (record-part (args .out .now) mid)
 
@@ -66,9 +72,9 @@ loop-less c = search needs
 loop-again : tie.Need-loop-again Inv-loop μ-loop
 loop-again c =
     let turn = c .before .before .before .before in
-    let start = turn .before .before .before in
+    let start = turn .before .before .before .before .before in
     let mid = turn .loop .low + (turn .loop .high - turn .loop .low) / 2 in
-    (omega arith, omega arith, between-up (start .pre .held) (start .args .r .now) (turn .loop .inv .2) mid (omega arith) (sym (compared (c .before)) ∙ c .if1 .taken))
+    (omega arith, omega arith, between-up (start .pre .held) (start .args .r .now) (turn .loop .inv .2) mid (omega arith) (sym (compared (c .before)) ∙ c .if2 .taken))
 
 loop-less-2 : tie.Need-loop-less-2 Inv-loop μ-loop
 loop-less-2 c = search needs
@@ -76,12 +82,12 @@ loop-less-2 c = search needs
 loop-again-2 : tie.Need-loop-again-2 Inv-loop μ-loop
 loop-again-2 c =
     let turn = c .before .before .before .before in
-    let start = turn .before .before .before in
+    let start = turn .before .before .before .before .before in
     let mid = turn .loop .low + (turn .loop .high - turn .loop .low) / 2 in
-    (omega arith, omega arith, between-down (start .pre .held) (start .args .r .now) (turn .loop .inv .2) mid (sym (compared (c .before)) ∙ c .if1 .left))
+    (omega arith, omega arith, between-down (start .pre .held) (start .args .r .now) (turn .loop .inv .2) mid (sym (compared (c .before)) ∙ c .if2 .left))
 
-returns : tie.Need-returns Inv-loop μ-loop
-returns c =
+returns-2 : tie.Need-returns-2 Inv-loop μ-loop
+returns-2 c =
     let turn = c .before in
     let b = turn .loop .inv .2 in
     record { within = omega arith; under = b .under; over = λ k l m. b .over k (omega arith) m }
@@ -92,6 +98,8 @@ find-spec =
     (tie.spec
     Inv-loop
     μ-loop
+    after-last-requires
+    returns
     loop-holds
     sub-mid
     add-mid
@@ -106,4 +114,4 @@ find-spec =
     loop-again
     loop-less-2
     loop-again-2
-    returns)
+    returns-2)

@@ -39,7 +39,7 @@ loop-again : tie.Need-loop-again Inv-loop μ-loop
 loop-again c =
     let in-loop = c .before .before .before .before .before in
     let at = in-loop .before in
-    let a = at .before .before .before .args in (
+    let a = at .before .before .before .before .before .before .before .before .before .args in (
       search needs,
       length-set (at .loop .result) (at .loop .i) _ ∙ at .loop .inv .1,
       λ k p r.
@@ -52,8 +52,10 @@ same-length c = search needs
 returns : tie.Need-returns Inv-loop μ-loop
 returns c =
     let at = c .before in
-    let a = at .before .before .before .args in
-    result-is (a .c) (shown (a .c) (a .t2)) (at .loop .result) (at .loop .inv .1) (λ j lt. at .loop .inv .2 (a .c) refl (at .before .registers .ensures) j (omega (arith, c .loop-test .left)))
+    let a = at .before .before .before .before .before .before .before .before .before .args in
+    let s = shown (a .t1) (a .t2) in
+    let r = at .before .registers .ensures (a .t1) s refl (record { masks = refl; presets = refl }) (record { count = refl; actions = refl }) refl in
+    result-is (a .t1) s (at .loop .result) (at .loop .inv .1) (λ j lt. at .loop .inv .2 (a .t1) refl r j (omega (arith, c .loop-test .left)))
 
 pub show-spec : {M : Type 1} → statement M
 show-spec =

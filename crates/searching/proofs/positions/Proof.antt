@@ -1,4 +1,4 @@
--- One span for each return. Assumes nothing.
+-- One sweep for each return. Assumes nothing.
 use mathlib.Core.Path.{refl, sym, _∙_}
 use mathlib.Core.Logic.{inl, inr}
 use native.Mathlib.Omega.{arith}
@@ -10,37 +10,45 @@ is-spent-requires : tie.Need-is-spent-requires
 is-spent-requires c κs = search needs
 
 returns : tie.Need-returns
-returns c = record { sure = λ _. (refl, inl (refl, sym (c .before .is-spent .ensures) ∙ c .if2 .taken)); rest = λ h. absurd (omega arith) }
+returns c k s ends shows = record { sure = λ _. (refl, inl (refl, sym (c .before .is-spent .ensures) ∙ c .if2 .taken)); lone = λ _. refl; rest = λ h. absurd (omega (arith, c .before .before .if1 .taken)) }
 
-add-t8 : tie.Need-add-t8
-add-t8 c = search needs
+add-t15 : tie.Need-add-t15
+add-t15 c = search needs
 
 returns-2 : tie.Need-returns-2
-returns-2 c = record { sure = λ _. (refl, inr refl); rest = λ h. absurd (omega arith) }
+returns-2 c k s ends shows = record { sure = λ _. (refl, inr refl); lone = λ _. refl; rest = λ h. absurd (omega (arith, c .before .before .if1 .taken)) }
 
 quiet-read-requires : tie.Need-quiet-read-requires
 quiet-read-requires c κs = search needs
 
-mul-t9 : tie.Need-mul-t9
-mul-t9 c = search needs
+mul-t16 : tie.Need-mul-t16
+mul-t16 c = search needs
 
-mul-t10 : tie.Need-mul-t10
-mul-t10 c = search needs
+mul-t17 : tie.Need-mul-t17
+mul-t17 c = search needs
 
-add-t11 : tie.Need-add-t11
-add-t11 c = search needs
+add-t18 : tie.Need-add-t18
+add-t18 c = search needs
 
 returns-3 : tie.Need-returns-3
-returns-3 c =
-    let read = c .before .quiet-read in
-    let found = read .ensures .0 .found (c .if3 .taken) in
+returns-3 c k s ends shows =
+    let at-read = c .before in
+    let low = c .if3 .taken in
+    let read = at-read .quiet-read .ensures .1 k s ends shows in
+    let found = read .found low in
     record {
-      sure = λ h. absurd (omega arith);
-      rest = λ _. inl (record { read = read .result; item = found .1 .0; small = c .if3 .taken; calm = found .0; seen = found .1 .1; from = refl; to = refl });
+      sure = λ h. absurd (omega (arith, at-read .before .if1 .left));
+      lone = λ h. absurd (omega (arith, at-read .before .if1 .left));
+      rest = λ _. inl (record { read = at-read .quiet-read .result .read; item = found .1 .0; small = low; calm = found .0; seen = found .1 .1; from = refl; to = refl; sources = read .seen low });
     }
 
 returns-4 : tie.Need-returns-4
-returns-4 c = record { sure = λ h. absurd (omega arith); rest = λ _. inr (refl, refl) }
+returns-4 c k s ends shows =
+    record {
+      sure = λ h. absurd (omega (arith, c .before .before .if1 .left));
+      lone = λ h. absurd (omega (arith, c .before .before .if1 .left));
+      rest = λ _. inr (refl, refl, refl);
+    }
 
 pub positions-spec : {M : Type 1} → statement M
 positions-spec =
@@ -48,11 +56,11 @@ positions-spec =
     (tie.spec
     is-spent-requires
     returns
-    add-t8
+    add-t15
     returns-2
     quiet-read-requires
-    mul-t9
-    mul-t10
-    add-t11
+    mul-t16
+    mul-t17
+    add-t18
     returns-3
     returns-4)

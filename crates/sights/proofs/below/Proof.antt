@@ -4,7 +4,7 @@ use mathlib.Core.Path.{_∙_, ap}
 use mathlib.Core.Bool.{Bool, _&&_}
 use Prim.Native.Nat.{ℕ, _-_}
 use Rattle.words.specs.Sets.{has}
-use Rattle.sights.proofs.Bits.{has-and, has-ones}
+use Rattle.orders.proofs.Bits.{has-and, has-ones}
 use borrow.Author.Needs.{needs}
 use Rattle.sights.proofs.below.Statement.{statement}
 use Rattle.sights.proofs.below.Tie as tie

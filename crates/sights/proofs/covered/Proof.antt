@@ -1,25 +1,20 @@
+use mathlib.Core.Path.{_≡_}
 use Prim.Native.Nat.{_<_}
-use borrow.Author.Needs.{needs}
-use Rattle.sights.proofs.Walks.{inSome, some-none, cover-more}
-use Rattle.orders.specs.Rows.{orderOf}
-use Rattle.words.specs.Sets.{has}
-use Rattle.words.proofs.Sets.{has-zero}
-use Rattle.words.proofs.Bools.{or-nothing}
-use mathlib.Core.Path.{_≡_, _∙_, sym, ap}
-use mathlib.Core.Bool.{Bool, _||_}
-use Prim.Native.Nat.{ℕ}
 use native.Mathlib.Omega.{arith}
+use Rattle.orders.specs.Rows.{orderOf}
+use Rattle.orders.proofs.Walks.{inSome, Covers, cover-none, cover-more, found-all}
+use borrow.Author.Needs.{needs}
 use Rattle.sights.proofs.covered.Statement.{statement}
 use Rattle.sights.proofs.covered.Tie as tie
 
 abbrev Inv-loop : tie.InvT-loop
-Inv-loop rows items mask₀ rest₀ mask rest = (a : ℕ) → (has mask a || inSome rest (orderOf rows a)) ≡ inSome items (orderOf rows a)
+Inv-loop rows items mask₀ rest₀ mask rest = Covers (orderOf rows) items rest mask
 
 abbrev μ-loop : tie.MeasureT-loop
 μ-loop rows items mask₀ rest₀ mask rest = rest
 
 loop-holds : tie.Need-loop-holds Inv-loop μ-loop
-loop-holds c = λ a. ap (λ (b : Bool). b || inSome (c .args .items) (orderOf (c .args .rows .now) a)) (has-zero a)
+loop-holds c = cover-none (orderOf (c .args .rows .now)) (c .args .items)
 
 lowest-requires : tie.Need-lowest-requires Inv-loop μ-loop
 lowest-requires c κs = search needs
@@ -38,19 +33,15 @@ loop-again c =
     let at = c .before .before .before .before in
     let a = at .before .args in
     let p : 0 < at .loop .rest = omega arith in
-    let e = c .before .before .lowest .ensures in
-    λ x. cover-more (at .loop .rest) (c .before .before .lowest .result) (c .others .result) e p (c .others .ensures .1 (c .before .before .lowest .result) e) (orderOf (a .rows .now)) (c .before .row-at .result) (at .loop .mask) x (inSome (a .items) (orderOf (a .rows .now) x)) (c .before .row-at .ensures x) (at .loop .inv x)
+    let e = c .before .before .lowest in
+    cover-more (at .loop .rest) (e .result) (c .others .result) (e .ensures) p (c .others .ensures .1 (e .result) (e .ensures)) (orderOf (a .rows .now)) (a .items) (c .before .row-at .result) (at .loop .mask) (c .before .row-at .ensures) (at .loop .inv)
 
 returns : tie.Need-returns Inv-loop μ-loop
 returns c =
     let at = c .before in
     let a = at .before .args in
     let q : at .loop .rest ≡ 0 = omega arith in
-    λ x.
-    sym (or-nothing (has (at .loop .mask) x))
-    ∙ ap (λ (b : Bool). has (at .loop .mask) x || b) (sym (some-none (orderOf (a .rows .now) x)))
-    ∙ ap (λ (n : ℕ). has (at .loop .mask) x || inSome n (orderOf (a .rows .now) x)) (sym q)
-    ∙ at .loop .inv x
+    λ x. found-all (at .loop .rest) (orderOf (a .rows .now) x) _ (inSome (a .items) (orderOf (a .rows .now) x)) q (at .loop .inv x)
 
 pub covered-spec : {M : Type 1} → statement M
 covered-spec =

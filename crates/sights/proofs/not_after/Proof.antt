@@ -1,26 +1,26 @@
-use Rattle.sights.proofs.Walks.{start-none, all-left}
-use Prim.Native.Nat.{_<_}
-use borrow.Author.Needs.{needs}
-use Rattle.sights.proofs.Walks.{sift-more, inside-more}
-use Rattle.orders.specs.Rows.{orderOf}
-use Rattle.words.specs.Sets.{has}
-use Rattle.words.proofs.Sets.{has-zero}
-use mathlib.Core.Path.{_≡_, _∙_, ap}
-use mathlib.Core.Bool.{true, _&&_, not}
-use Prim.Native.Nat.{ℕ}
+use mathlib.Core.Path.{_≡_, ap}
+use mathlib.Core.Bool.{Bool, not}
+use mathlib.Core.List.{List}
+use Prim.Native.Nat.{ℕ, _<_}
 use native.Mathlib.Omega.{arith}
+use Rattle.orders.specs.Rows.{orderOf}
+use Rattle.orders.proofs.Walks.{Sifted, sift-none, sift-more, sift-all}
+use borrow.Author.Needs.{needs}
 use Rattle.sights.proofs.not_after.Statement.{statement}
 use Rattle.sights.proofs.not_after.Tie as tie
 
+-- item a does not stand after item i
+abbrev early : List ℕ → ℕ → ℕ → Bool
+early rows i a = not (orderOf rows i a)
+
 abbrev Inv-loop : tie.InvT-loop
-Inv-loop rows items i seen₀ rest₀ seen rest = ((a : ℕ) → has rest a ≡ true → has items a ≡ true) × ((a : ℕ) → has seen a ≡ (has items a && not (has rest a) && not (orderOf rows i a)))
+Inv-loop rows items i seen₀ rest₀ seen rest = Sifted items (early rows i) rest seen
 
 abbrev μ-loop : tie.MeasureT-loop
 μ-loop rows items i seen₀ rest₀ seen rest = rest
 
 loop-holds : tie.Need-loop-holds Inv-loop μ-loop
-loop-holds c =
-    (λ a h. h, λ a. has-zero a ∙ start-none (has (c .args .items) a) (not (orderOf (c .args .rows .now) (c .args .i) a)))
+loop-holds c = sift-none (c .args .items) (early (c .args .rows .now) (c .args .i))
 
 lowest-requires : tie.Need-lowest-requires Inv-loop μ-loop
 lowest-requires c κs = search needs
@@ -44,22 +44,15 @@ loop-again c =
     let at = c .before .before .before .before .before in
     let a = at .before .args in
     let p : 0 < at .loop .rest = omega arith in
-    let m = c .before .before .before .lowest .ensures in
-    let e = c .before .before .before .lowest .result in
-    let o = c .others .ensures .1 e m in (
-      inside-more (at .loop .rest) e (c .others .result) m p o (a .items) (at .loop .inv .0),
-      sift-more (at .loop .rest) e (c .others .result) m p o (a .items) (orderOf (a .rows .now) (a .i)) (at .loop .seen) (c .before .with-unless .result) (c .before .before .before2 .result) (c .before .before .before2 .ensures) (c .before .with-unless .ensures) (at .loop .inv .0) (at .loop .inv .1),
-    )
+    let e = c .before .before .before .lowest in
+    let late = c .before .before .before2 in
+    sift-more (at .loop .rest) (e .result) (c .others .result) (e .ensures) p (c .others .ensures .1 (e .result) (e .ensures)) (a .items) (early (a .rows .now) (a .i)) (at .loop .seen) (c .before .with-unless .result) (not (late .result)) (ap not (late .ensures)) (c .before .with-unless .ensures) (at .loop .inv)
 
 returns : tie.Need-returns Inv-loop μ-loop
 returns c =
     let at = c .before in
-    let a = at .before .args in
     let q : at .loop .rest ≡ 0 = omega arith in
-    λ x.
-    at .loop .inv .1 x
-    ∙ ap (λ (n : ℕ). has (a .items) x && not (has n x) && not (orderOf (a .rows .now) (a .i) x)) q
-    ∙ all-left (has (a .items) x) (has 0 x) (not (orderOf (a .rows .now) (a .i) x)) (has-zero x)
+    sift-all q (at .loop .inv)
 
 pub not-after-spec : {M : Type 1} → statement M
 not-after-spec =

@@ -1,4 +1,4 @@
-use Rattle.sights.proofs.Walks.{row-is, row-none}
+use Rattle.sights.proofs.Seeing.{row-is, row-none}
 use borrow.Author.Needs.{needs}
 use Rattle.sights.proofs.row_at.Statement.{statement}
 use Rattle.sights.proofs.row_at.Tie as tie

@@ -1,4 +1,4 @@
-use Rattle.sights.proofs.Walks.{sees-is}
+use Rattle.sights.proofs.Seeing.{sees-is}
 use borrow.Author.Needs.{needs}
 use Rattle.sights.proofs.visible_items.Statement.{statement}
 use Rattle.sights.proofs.visible_items.Tie as tie

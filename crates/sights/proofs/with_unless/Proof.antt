@@ -2,7 +2,7 @@ use mathlib.Core.Path.{_∙_, ap}
 use Prim.Native.Nat.{ℕ}
 use lib.Bits.{bitOr}
 use Rattle.words.specs.Sets.{has}
-use Rattle.sights.proofs.Walks.{with-one, with-none}
+use Rattle.sights.proofs.Seeing.{with-one, with-none}
 use borrow.Author.Needs.{needs}
 use Rattle.sights.proofs.with_unless.Statement.{statement}
 use Rattle.sights.proofs.with_unless.Tie as tie

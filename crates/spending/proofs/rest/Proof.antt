@@ -1,7 +1,7 @@
+use mathlib.Core.Path.{_∙_, sym, ap}
 use Rattle.rules.specs.State.{kindOf}
+use Rattle.machine.specs.Shown.{shownEntry}
 use Rattle.machine.proofs.Entries.{action-at}
-use mathlib.Core.Path.{_∙_, sym, ap, refl}
-use Rattle.machine.specs.Shown.{shownEntry, shown, Acts}
 use Rattle.spending.proofs.Rests.{rest-none, rest-issue, rest-acquire, unissued-kind}
 use borrow.Author.Needs.{needs}
 use Rattle.spending.proofs.rest.Statement.{statement}
@@ -19,28 +19,28 @@ element-write-spent c = search needs
 returns : tie.Need-returns
 returns c =
     let b = c .before .before .before in
-    rest-issue (shown (b .args .t1) (b .args .t2)) (b .args .spent .now) (b .pre .long) (c .still-spent .result) (b .args .j) (c .before .before .if1 .taken) (c .still-spent .ensures)
+    λ k s q h fits. rest-issue s (b .args .spent .now) (b .pre .long) (b .args .issued) (c .still-spent .result) (b .args .j) (h .count) (c .before .before .if1 .taken) (c .still-spent .ensures)
 
 action-at-requires : tie.Need-action-at-requires
 action-at-requires c κs = search needs
 
 returns-2 : tie.Need-returns-2
 returns-2 c =
+    let a = c .before .action-at in
     let b = c .before .before .before in
-    let s = shown (b .args .t1) (b .args .t2) in
-    rest-none s (b .args .spent .now) (b .pre .long) (b .args .j) (c .before .action-at .result) (c .before .before .if1 .left) (c .before .action-at .ensures) (unissued-kind (b .args .t1) (b .args .t2 .issued) (b .args .t2 .acts) (c .before .action-at .result) (c .if2 .taken))
+    λ k s q h fits. rest-none s (b .args .spent .now) (b .pre .long) (b .args .j) (a .result) (c .before .before .if1 .left) (a .ensures) (unissued-kind k (b .args .issued) (b .args .acts .now) s (a .result) h (c .if2 .taken))
 
 kind-at-requires : tie.Need-kind-at-requires
 kind-at-requires c κs = search needs
 
 returns-3 : tie.Need-returns-3
 returns-3 c =
-    let at-else = c .before .before .before .before in
+    let at-else = c .before .before in
     let at-action = at-else .before in
+    let a = at-action .action-at in
     let b = at-action .before .before in
-    let s = shown (b .args .t1) (b .args .t2) in
-    let k = at-action .action-at .result in
-    rest-none s (b .args .spent .now) (b .pre .long) (b .args .j) k (at-action .before .if1 .left) (at-action .action-at .ensures) (λ z. c .if3 .taken (c .before .kind-at .ensures .0 ∙ sym (ap kindOf (action-at (b .args .t1) (b .args .t2 .issued) (b .args .t2 .acts) s (record { count = refl; actions = refl }) k (at-else .if2 .left))) ∙ z))
+    λ k s q h fits. rest-none s (b .args .spent .now) (b .pre .long) (b .args .j) (a .result) (at-action .before .if1 .left) (a .ensures)
+    (λ z. c .if3 .taken (c .before .kind-at .ensures .0 ∙ sym (ap kindOf (action-at k (b .args .issued) (b .args .acts .now) s h (a .result) (at-else .if2 .left))) ∙ z))
 
 entry-at-requires : tie.Need-entry-at-requires
 entry-at-requires c κs = search needs
@@ -54,16 +54,13 @@ clear-requires c κs = search needs
 returns-4 : tie.Need-returns-4
 returns-4 c =
     let at-woken = c .before .before in
-    let at-entry = at-woken .before .before .before .before .before .before in
-    let at-else = at-entry .before .before .before .before .before .before .before in
+    let e = at-woken .before .entry-at in
+    let at-else = at-woken .before .before .before .before in
     let at-action = at-else .before in
+    let a = at-action .action-at in
     let b = at-action .before .before in
-    let s = shown (b .args .t1) (b .args .t2) in
-    let k = at-action .action-at .result in
-    let e = at-entry .entry-at in
-    let h : Acts (b .args .t1) (b .args .t2 .issued) (b .args .t2 .acts) s = record { count = refl; actions = refl } in
-    rest-acquire s (b .args .spent .now) (b .pre .long) (b .args .t1) (b .args .t2 .acts) (e .result) (at-woken .woken .result) (c .clear .last .0) (b .args .j) k h (at-action .before .if1 .left) (at-action .action-at .ensures)
-    (action-at (b .args .t1) (b .args .t2 .issued) (b .args .t2 .acts) s h k (at-else .if2 .left) ∙ ap (shownEntry (b .args .t1)) (sym (e .ensures))) (at-woken .woken .ensures (b .args .t1) s (record { masks = refl; presets = refl }) h) (c .clear .ensures)
+    λ k s q h fits. rest-acquire s (b .args .spent .now) (b .pre .long) k (b .args .issued) (b .args .acts .now) (e .result) (at-woken .woken .result) (c .clear .last .0) (b .args .j) (a .result) h (at-action .before .if1 .left) (a .ensures)
+    (action-at k (b .args .issued) (b .args .acts .now) s h (a .result) (at-else .if2 .left) ∙ ap (shownEntry k) (sym (e .ensures))) (at-woken .woken .ensures k s q h) (c .clear .ensures)
 
 pub rest-spec : {M : Type 1} → statement M
 rest-spec =
