@@ -1,4 +1,6 @@
 // Asks whether an outcome that meets some clauses is possible within a bound, and by which schedule.
+#![tactic(auto)]
+
 ghost use Rattle.std.specs.Prelude.{◌≡◌, true, false, [], ◌∷◌, ◌+◌, ◌-◌, ◌≤◌, ◌<◌, length, set};
 ghost use Rattle.clauses.specs.Wanted.{wanted, clauses_of};
 ghost use Rattle.runs.specs.Asking.{Laid, IsAnswer, Refused};
@@ -17,21 +19,21 @@ use machine::Machine;
 use searching::Tally;
 
 // Whether an outcome is within reach, and, if none is, whether a run was cut.
-#[derive(Drop)]
+#[derive(Clone, Copy)]
 pub struct Reach {
     pub found: bool,
     pub cut: bool,
 }
 
 // The positions from, from + 1, .., to - 1.
-#[derive(Drop)]
+#[derive(Clone, Copy)]
 pub struct Span {
     pub from: usize,
     pub to: usize,
 }
 
 // The four bytes of a step.
-#[derive(Drop)]
+#[derive(Clone, Copy)]
 pub struct Bytes {
     pub kind: u8,
     pub proc: u8,
@@ -40,7 +42,7 @@ pub struct Bytes {
 }
 
 // What asking answers: the code, yes or no, the schedule's length in bytes, the cut mark, and the position that a block's code carries, 0 with any other.
-#[derive(Drop)]
+#[derive(Clone, Copy)]
 pub struct Answer {
     pub code: u8,
     pub yes: bool,

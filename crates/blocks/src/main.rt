@@ -1,4 +1,6 @@
 // Reads the blocks that its arguments name. Of each it prints the code and its position, or for code 0 whether writing the case gives the same bytes again.
+#![tactic(auto)]
+
 use cases::Case;
 use libc::STDOUT_FILENO;
 

@@ -1,5 +1,7 @@
 // Lists every outcome of a case on a store-buffer machine within a bound of instructions, by a depth-first search that runs a quiet
 // instruction alone, records an outcome as soon as every place counter is at its count, and leaves out moves that are spent.
+#![tactic(auto)]
+
 ghost use Rattle.std.specs.Prelude.{◌≡◌, true, false, ℕ, ◌<◌, length};
 ghost use Rattle.words.specs.Sets.{has as in_set};
 ghost use Rattle.boards.specs.Machine.{Move};
@@ -30,7 +32,7 @@ pub fn machine_of(kind: u32) -> Buffering
 }
 
 // How many records the buffer holds, whether a run was cut, and whether there was no room.
-#[derive(Drop)]
+#[derive(Clone, Copy)]
 pub struct Tally {
     pub count: usize,
     pub cut: bool,
@@ -38,7 +40,7 @@ pub struct Tally {
 }
 
 // What listing answers: the code, how many records there are, whether a run was cut, and the position that a block's code carries, 0 with any other.
-#[derive(Drop)]
+#[derive(Clone, Copy)]
 pub struct Answer {
     pub code: u8,
     pub count: usize,
@@ -47,7 +49,7 @@ pub struct Answer {
 }
 
 // What a move touches: its processor, the location if there is one, and whether it is a read, and a read or a drain.
-#[derive(Drop)]
+#[derive(Clone, Copy)]
 pub struct Touch {
     pub proc: usize,
     pub touching: bool,

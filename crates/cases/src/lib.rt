@@ -1,4 +1,6 @@
 // A case: the programs of its processors, what their registers and the memory start with; and the block of 512 bytes that holds it.
+#![tactic(auto)]
+
 mod bytes;
 mod faults;
 mod reading;
@@ -10,7 +12,7 @@ ghost use Rattle.cases.specs.Block.{read_of, seal_fault, sealed, write_fault, wr
 pub use bytes::number;
 
 // What a local instruction computes.
-#[derive(Drop)]
+#[derive(Clone, Copy)]
 pub enum Expr {
     Constant(u16),
     Sum(u8, u8),
@@ -19,7 +21,7 @@ pub enum Expr {
 }
 
 // An instruction, its fields in the order d, a, b, constant.
-#[derive(Drop)]
+#[derive(Clone, Copy)]
 pub enum Instr {
     Empty,
     Read(u8, u8),
@@ -31,13 +33,13 @@ pub enum Instr {
     Release(u8),
 }
 
-#[derive(Drop)]
+#[derive(Clone, Copy)]
 pub struct Slot {
     pub instr: Instr,
 }
 
 // Register k of processor p stands at 8p + k of presets, its instruction i at 12p + i of code.
-#[derive(Drop)]
+#[derive(Clone, Copy)]
 pub struct Case {
     pub procs: u8,
     pub locs: u8,
@@ -49,7 +51,7 @@ pub struct Case {
 }
 
 // What reading a block answers: the code, its position, whether an accepted block has a usual bound, which is dropped, and the case.
-#[derive(Drop)]
+#[derive(Clone, Copy)]
 pub struct CaseRead {
     pub code: u8,
     pub position: usize,
@@ -58,7 +60,7 @@ pub struct CaseRead {
 }
 
 // A code of a block with the lowest position that is bad for it; codes 1 and 2, and 0 where there is none, have position 0.
-#[derive(Drop)]
+#[derive(Clone, Copy)]
 pub struct Fault {
     pub code: u8,
     pub position: usize,

@@ -1,4 +1,6 @@
 // The steps that a search takes from a machine: one that may be taken alone, the quiet read's, or all, without those that are spent or needless.
+#![tactic(auto)]
+
 ghost use Rattle.std.specs.Prelude.{◌≡◌, true, cond, ℕ, ◌/◌, ◌%◌, ◌≤◌, ◌<◌, ltb, get_or};
 ghost use Rattle.words.specs.Small.{some_below};
 ghost use Rattle.words.specs.Sets.{has as in_set};
@@ -22,7 +24,7 @@ use cases::{Case, Instr};
 use machine::Entry;
 
 // A quiet read and its sources.
-#[derive(Drop)]
+#[derive(Clone, Copy)]
 pub struct Quiet {
     pub read: usize,
     pub sources: u64,

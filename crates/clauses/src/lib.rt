@@ -1,10 +1,12 @@
 // Clauses over an outcome. The caller owns a short list of records and lends it. `and_holds` does the work on one clause by value, and is covered.
 // `meets` reads the lent slice, one clause after the other: a walk of its MIR with a loop, by hand.
+#![tactic(auto)]
+
 ghost use Rattle.std.specs.Prelude.{◌≡◌, ℕ, ◌+◌, ◌*◌, ◌<◌, ◌≤◌, ◌&&◌, eqb, length, take};
 ghost use Rattle.clauses.specs.Wanted.{Named, AllNamed, holds_in, meets_all, Askable, wanted, no_clauses, with_clause};
 
 #[repr(C)]
-#[derive(Drop)]
+#[derive(Clone, Copy)]
 pub struct Clause {
     pub processor: u8,
     pub register: u8,
@@ -62,7 +64,7 @@ fn meets<'c, 'o>(clauses: &'c [Clause], outcome: &'o [u8]) -> bool
 }
 
 // Up to 8 clauses by value, for the covered functions of a search.
-#[derive(Drop)]
+#[derive(Clone, Copy)]
 pub struct Asked {
     pub clauses: [Clause; 8],
     pub count: usize,

@@ -1,4 +1,6 @@
 // Commit: the code that it gets, and the machine after it.
+#![tactic(auto)]
+
 ghost use Rattle.std.specs.Prelude.{◌≡◌, true, ◌&&◌, not, List, [], ◌∷◌, ℕ, ◌+◌, ◌≤◌, ◌<◌, length, get_or, set};
 ghost use Rattle.words.specs.Small.{is, is_none, or_zero, any};
 ghost use Rattle.words.specs.Refusals.{◌when◌, first_code_of};

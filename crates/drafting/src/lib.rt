@@ -1,11 +1,13 @@
 // A case in the making, line by line.
+#![tactic(auto)]
+
 mod state;
 
 use cases::Slot;
 pub use state::{nothing, onward};
 
 // A case in the making: the first place that may still be filled, and the highest that a label of the open processor names.
-#[derive(Drop)]
+#[derive(Clone, Copy)]
 pub struct Sheet {
     pub procs: u8,
     pub locs: u8,
@@ -20,7 +22,7 @@ pub struct Sheet {
 }
 
 // What a further line leads to.
-#[derive(Drop)]
+#[derive(Clone, Copy)]
 pub struct Stepped {
     pub ok: bool,
     pub sheet: Sheet,

@@ -1,4 +1,6 @@
 // The boot hand-off: can the receiver see ready and yet read an old word?
+#![tactic(auto)]
+
 ghost use Rattle.std.specs.Prelude.{◌≡◌, ◌↔◌, true, cond, ◌+◌, ◌≤◌, ◌<◌, eqb, ltb, length, get_or, set};
 ghost use Rattle.clauses.specs.Wanted.{wanted};
 ghost use Rattle.rules.specs.State.{initial};
@@ -14,7 +16,7 @@ use cases::{Case, Instr, Slot};
 use clauses::{Asked, Clause};
 
 // The code, the verdict (0 safe, 1 stale, 2 stuck; 0 with a refusal) and the schedule's length in bytes.
-#[derive(Drop)]
+#[derive(Clone, Copy)]
 pub struct Answer {
     pub code: u8,
     pub verdict: u8,
@@ -22,7 +24,7 @@ pub struct Answer {
 }
 
 // A plan by value: its length and its first four actions, 6 where there is none.
-#[derive(Drop)]
+#[derive(Clone, Copy)]
 pub struct Plan {
     pub count: usize,
     pub first: u8,
@@ -32,7 +34,7 @@ pub struct Plan {
 }
 
 // Whether a schedule was found, and its length in bytes.
-#[derive(Drop)]
+#[derive(Clone, Copy)]
 pub struct Found {
     pub yes: bool,
     pub length: usize,

@@ -1,4 +1,6 @@
 // Issue: the code that it gets, and the machine after it.
+#![tactic(auto)]
+
 ghost use Rattle.std.specs.Prelude.{◌≡◌, ◌&&◌, cond, List, [], ◌∷◌, ℕ, ◌+◌, ◌%◌, ◌≤◌, ◌<◌, eqb, leb, length, get_or};
 ghost use Rattle.words.specs.Small.{is_none, or_zero};
 ghost use Rattle.words.specs.Refusals.{◌when◌, first_code_of};

@@ -1,1 +1,3 @@
 // The first bad line of a text, found line by line: laws, no code.
+#![tactic(auto)]
+

@@ -1,4 +1,6 @@
 // Where a search may leave a machine: a release is queued that can never be committed, and no cut is left to find.
+#![tactic(auto)]
+
 ghost use Rattle.std.specs.Prelude.{◌≡◌, true, cond, ◌≤◌, ◌<◌, length, get_or};
 ghost use Rattle.words.specs.Small.{some_below};
 ghost use Rattle.cases.specs.declared.Case.{Case as TheCase};

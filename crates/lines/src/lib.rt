@@ -1,4 +1,6 @@
 // The text that the programs print, laid line by line into a lent slice.
+#![tactic(auto)]
+
 mod answers;
 mod laying;
 mod number;

@@ -1,4 +1,6 @@
 // Lists every outcome of a case within a bound.
+#![tactic(auto)]
+
 ghost use Rattle.std.specs.Prelude.{length};
 ghost use Rattle.listing.specs.Outcomes.{answer_of, IsOutcomes};
 ghost use Rattle.listing.specs.Given.{Searching, Found, RefusedAt};
@@ -7,7 +9,7 @@ use cases::Case;
 use searching::Tally;
 
 // What listing answers: the code, how many records there are, whether a run was cut, and the position that a block's code carries, 0 with any other.
-#[derive(Drop)]
+#[derive(Clone, Copy)]
 pub struct Answer {
     pub code: u8,
     pub count: usize,

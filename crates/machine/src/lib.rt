@@ -1,4 +1,6 @@
 // The machine in arrays: its actions, one order and locks; its start, and what its registers and queues hold.
+#![tactic(auto)]
+
 mod word;
 
 ghost use Rattle.std.specs.Prelude.{◌≡◌, ◌/◌, ◌%◌, ◌≤◌, ◌<◌, get_or};
@@ -17,7 +19,7 @@ use cases::{Case, Instr};
 pub use word::{entry_at, instr_at, kind_at, packed, program};
 
 // An action: its processor and place, the names of the registers that it reads, its location, and its result once it is done.
-#[derive(Drop)]
+#[derive(Clone, Copy)]
 pub struct Entry {
     pub instr: Instr,
     pub proc: u8,
@@ -31,7 +33,7 @@ pub struct Entry {
 
 // Register k of processor p has its name at 8p + k, each word of acts holds an entry, row b has the items that stand before item b.
 // Sets of items are kept ready: 0 to 7 the write items of each location, 8 to 15 the items of each kind, 16 to 19 the queue of each processor, 20 the items that have their value.
-#[derive(Drop)]
+#[derive(Clone, Copy)]
 pub struct Machine {
     pub issued: usize,
     pub places: [u8; 4],
@@ -43,7 +45,7 @@ pub struct Machine {
 }
 
 // A value, where it is known.
-#[derive(Drop)]
+#[derive(Clone, Copy)]
 pub struct Value {
     pub known: bool,
     pub value: u16,

@@ -1,4 +1,6 @@
 // Steps that need not be tried: a read's source whose value a spent one has, and reads that nothing looks at.
+#![tactic(auto)]
+
 ghost use Rattle.std.specs.Prelude.{◌≡◌, true, ◌&&◌, ◌||◌, not, ℕ, ◌≤◌, ◌<◌, eqb, length};
 ghost use Rattle.words.specs.Small.{or_zero, some_below};
 ghost use Rattle.words.specs.Sets.{has as in_set};

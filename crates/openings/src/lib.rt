@@ -1,4 +1,6 @@
 // The steps that a machine accepts, as words: the sources of a read, the other commits, the issues.
+#![tactic(auto)]
+
 ghost use Rattle.std.specs.Prelude.{◌≡◌, not, List, ℕ, ◌+◌, ◌<◌, eqb, get_or};
 ghost use Rattle.words.specs.Sets.{has as in_set};
 ghost use Rattle.cases.specs.declared.Case.{Case as TheCase};

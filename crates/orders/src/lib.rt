@@ -1,4 +1,6 @@
 // One order over all items, as rows of sets.
+#![tactic(auto)]
+
 ghost use Rattle.std.specs.Prelude.{◌≡◌, Bool, ◌&&◌, not, ℕ, ◌+◌, ◌≤◌, ◌<◌, eqb, ltb, length};
 ghost use Rattle.words.specs.Sets.{has as in_set};
 ghost use Rattle.rules.specs.Order.{up_to};

@@ -1,4 +1,6 @@
 // Lists the outcomes of a case. Standard input is a block and a bound, 513 bytes in all.
+#![tactic(auto)]
+
 ghost use Rattle.std.specs.Prelude.{◌≡◌, ◌≤◌, length};
 ghost use Rattle.outcomes.specs.Said.{Listing, Said, Answered};
 

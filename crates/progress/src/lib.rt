@@ -1,1 +1,3 @@
 // Nobody waits without cause: definitions and laws, no code.
+#![tactic(auto)]
+

@@ -1,1 +1,3 @@
 // Happens-before and the first race: definitions and laws, no code.
+#![tactic(auto)]
+

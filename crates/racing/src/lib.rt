@@ -1,4 +1,6 @@
 // The first race of a schedule.
+#![tactic(auto)]
+
 ghost use Rattle.std.specs.Prelude.{◌≡◌, ◌≤◌, ◌<◌};
 ghost use Rattle.cases.specs.declared.Case.{Case as TheCase};
 ghost use Rattle.rules.specs.State.{State};
@@ -13,7 +15,7 @@ use machine::Entry;
 
 // The code, the two actions, 255 where there is no race, the number of steps taken, the place of the instruction that the code names, else 255, and the
 // position that a block's code carries, 0 with any other.
-#[derive(Drop)]
+#[derive(Clone, Copy)]
 pub struct Raced {
     pub code: u8,
     pub first: usize,
@@ -24,7 +26,7 @@ pub struct Raced {
 }
 
 // Two actions, both 255 where there is no race.
-#[derive(Drop)]
+#[derive(Clone, Copy)]
 struct Pair {
     first: usize,
     second: usize,

@@ -1,4 +1,6 @@
 // Reading the text of a case.
+#![tactic(auto)]
+
 mod reader;
 mod unset;
 
@@ -11,7 +13,7 @@ use drafting::{Sheet, nothing};
 use texts::TextRead;
 
 // A text taken line by line: whether each line was taken and the last one ended, the first line that does not pass, the case so far.
-#[derive(Drop)]
+#[derive(Clone, Copy)]
 pub struct Walked {
     pub ok: bool,
     pub line: usize,
@@ -19,7 +21,7 @@ pub struct Walked {
 }
 
 // What turning a text into a block answers: the code, the line that 17 or 19 names, whether the text had a usual bound that is not 0.
-#[derive(Drop)]
+#[derive(Clone, Copy)]
 pub struct TextBlock {
     pub code: u8,
     pub line: usize,

@@ -1,4 +1,6 @@
 // The outcome buffer: records of 96 bytes in a lent slice, ascending in byte order, each once, and zeros after them.
+#![tactic(auto)]
+
 ghost use Rattle.std.specs.Prelude.{◌≡◌, ◌↔◌, true, ◌++◌, ◌+◌, ◌≤◌, ◌<◌, length, get_or, take, drop, replicate};
 ghost use Rattle.runs.specs.Listing.{below as is_below};
 ghost use Rattle.records.specs.Order.{four_at, eight_at, Number, Alike};
@@ -6,7 +8,7 @@ ghost use Rattle.records.specs.Buffer.{Among, Held};
 ghost use Rattle.records.specs.Insertion.{Place, Finding, Standing, Shifting, Insertion};
 
 // How many records the buffer holds, and whether there was no room for a new one.
-#[derive(Drop)]
+#[derive(Clone, Copy)]
 pub struct Inserted {
     pub count: usize,
     pub full: bool,

@@ -1,4 +1,6 @@
 // Replays a schedule: a block of 512 bytes, then the schedule, on standard input. Prints the code and the number of steps taken, and the position of a block's code.
+#![tactic(auto)]
+
 ghost use Rattle.std.specs.Prelude.{◌≤◌, length};
 ghost use Rattle.lines.specs.Laid.{Printed};
 ghost use Rattle.replay.specs.Said.{line_of, said};

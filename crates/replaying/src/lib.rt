@@ -1,4 +1,6 @@
 // A replay: a schedule taken step by step on the case that a block holds.
+#![tactic(auto)]
+
 ghost use Rattle.std.specs.Prelude.{◌≡◌, cond, ℕ, ◌≤◌, ◌<◌, eqb, length, get_or};
 ghost use Rattle.words.specs.Refusals.{first_code_of};
 ghost use Rattle.cases.specs.declared.Case.{Case as TheCase};
@@ -14,7 +16,7 @@ use machine::Machine;
 
 // The code, the number of steps taken, the place of the instruction that the code names, else 255, and the position that a block's code carries,
 // 0 with any other.
-#[derive(Drop)]
+#[derive(Clone, Copy)]
 pub struct Replayed {
     pub code: u8,
     pub steps: usize,
@@ -23,7 +25,7 @@ pub struct Replayed {
 }
 
 // The code of the first refused step or 0, the number of steps before it, its place, and the machine then.
-#[derive(Drop)]
+#[derive(Clone, Copy)]
 pub struct Walked {
     pub code: u8,
     pub steps: usize,

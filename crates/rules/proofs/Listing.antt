@@ -14,10 +14,10 @@ module _ (c : Case) where
   still s t f h = finished_still c s f t h
 
   pub listing_exists : (n size : ℕ) → (a : Listed) × (out : List ℕ) × IsListing (womm c) n size a out
-  listing_exists = Exists.listing-exists (womm c) (candidates c) (covers c)
+  listing_exists = Exists.listing_exists (womm c) (candidates c) (covers c)
 
   pub listing_unique : (n size : ℕ) (a b : Listed) (out buf : List ℕ) → IsListing (womm c) n size a out → IsListing (womm c) n size b buf → (a ≡ b) × (out ≡ buf)
-  listing_unique = Unique.listing-unique (womm c)
+  listing_unique = Unique.listing_unique (womm c)
 
   pub listing_same : (n k size : ℕ) (a : Listed) (out : List ℕ) → n ≤ k → a.code ≡ 0 → a.cut ≡ false → IsListing (womm c) n size a out → IsListing (womm c) k size a out
   listing_same = Stable.listing_same (womm c) still

@@ -21,10 +21,10 @@ use Rattle.rules.proofs.Listing.{still}
 
 module _ (c : Case) (W : Wish) (n size : ℕ) where
   pub answer_exists : (a : Answered) × (out : List ℕ) × IsAnswer (womm c) W step_bytes n size a out
-  answer_exists = Asked.answer-exists (womm c) (still c) W step_bytes (candidates c) (covers c) n size
+  answer_exists = Asked.answer_exists (womm c) (still c) W step_bytes (candidates c) (covers c) n size
 
   pub answer_unique : (a b : Answered) (out buf : List ℕ) → IsAnswer (womm c) W step_bytes n size a out → IsAnswer (womm c) W step_bytes n size b buf → (a ≡ b) × (out ≡ buf)
-  answer_unique = Asked.answer-unique (womm c) W step_bytes n size
+  answer_unique = Asked.answer_unique (womm c) W step_bytes n size
 
 -- a step's bytes are four, and no other step's
 

@@ -1,4 +1,6 @@
 // The rules of the machine: definitions and laws; as code the kinds and the four expressions.
+#![tactic(auto)]
+
 ghost use Rattle.std.specs.Prelude.{◌≡◌, ◌+◌, ◌-◌, ◌%◌, ◌<◌, if◌then◌else◌, nat_eq};
 ghost use Rattle.rules.specs.Kinds.{kind, evaluate};
 

@@ -1,4 +1,6 @@
 // A store-buffer machine in arrays: registers, memory, locks, and one log of stores that holds all buffers of all kinds.
+#![tactic(auto)]
+
 ghost use Rattle.std.specs.Prelude.{◌≡◌, ◌&&◌, cond, ◌/◌, ◌≤◌, ◌<◌, ltb, length, get_or};
 ghost use Rattle.std.proofs.Math.Option.{none, some};
 ghost use Rattle.cases.specs.declared.Case.{Case as TheCase};
@@ -25,7 +27,7 @@ use machine::Value;
 use stores::Logged;
 
 // Register k of processor p stands at 8p + k; the stores of the log stand in the order in which they were run.
-#[derive(Drop)]
+#[derive(Clone, Copy)]
 pub struct Arrays {
     pub places: [u8; 4],
     pub values: [Value; 32],
@@ -144,7 +146,7 @@ pub fn can_run(c: Case, k: Buffering, s: Arrays, p: usize) -> bool
 }
 
 // What a search looks at before it runs an instruction: its kind, what its first register holds, whether it is quiet.
-#[derive(Drop)]
+#[derive(Clone, Copy)]
 pub struct Next {
     pub kind: u8,
     pub at: u16,

@@ -1,4 +1,6 @@
 // The search under the list and the question: every outcome within a bound that meets the clauses, depth first over sure, quiet and unspent steps.
+#![tactic(auto)]
+
 ghost use Rattle.std.specs.Prelude.{◌≡◌, true, false, ℕ, ◌/◌, ◌≤◌, ◌<◌, length};
 ghost use Rattle.words.specs.Sets.{has as in_set};
 ghost use Rattle.cases.specs.declared.Case.{Case as TheCase};
@@ -22,7 +24,7 @@ use cases::Case;
 use clauses::Asked;
 
 // How many records the buffer holds, whether a run was cut, and whether there was no room.
-#[derive(Drop)]
+#[derive(Clone, Copy)]
 pub struct Tally {
     pub count: usize,
     pub cut: bool,
@@ -30,7 +32,7 @@ pub struct Tally {
 }
 
 // What is swept: the positions from, from + 1, .., to - 1; and, where they are those of one quiet read, its sources.
-#[derive(Drop)]
+#[derive(Clone, Copy)]
 pub struct Sweep {
     pub from: usize,
     pub to: usize,

@@ -1,4 +1,6 @@
 // Prints the numbers over a shelf: a file of blocks on standard input, in pieces as they come.
+#![tactic(auto)]
+
 ghost use Rattle.std.specs.Prelude.{◌≡◌, ◌-◌, ◌≤◌, length};
 ghost use Rattle.shelf.specs.Said.{Answered};
 

@@ -1,4 +1,3 @@
-pub mod Local
 pub mod Adding
 pub mod Tallying
 pub mod Splitting

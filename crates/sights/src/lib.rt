@@ -1,4 +1,6 @@
 // Questions that the kept sets answer: what holds a commit back, what a read sees, what is not committed, which names are defined.
+#![tactic(auto)]
+
 ghost use Rattle.std.specs.Prelude.{◌≡◌, ◌&&◌, ◌||◌, not, ℕ, ◌+◌, ◌≤◌, ◌<◌, eqb, ltb};
 ghost use Rattle.words.specs.Small.{is_none, some_below};
 ghost use Rattle.words.specs.Sets.{has as in_set};

@@ -1,4 +1,6 @@
 // The steps that are spent, as fifty words: asked for, one more noted, and what stays spent when a step is taken.
+#![tactic(auto)]
+
 ghost use Rattle.std.specs.Prelude.{◌≡◌, ◌&&◌, ◌||◌, not, cond, ℕ, suc, ◌/◌, ◌%◌, ◌≤◌, ◌<◌, eqb, ltb, leb, length};
 ghost use Rattle.words.specs.Sets.{has as in_set};
 ghost use Rattle.cases.specs.declared.Case.{Case as TheCase};

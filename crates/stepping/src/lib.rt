@@ -1,4 +1,6 @@
 // A step: the code that it gets, the place that goes with it, and the door through which every step is taken.
+#![tactic(auto)]
+
 ghost use Rattle.std.specs.Prelude.{◌≡◌, ℕ};
 ghost use Rattle.cases.specs.declared.Case.{Case as TheCase};
 ghost use Rattle.rules.specs.Step.{step_of, step_code, naming, step_place, after};

@@ -1,4 +1,6 @@
 // The stores of a board, in one log: all buffers of all kinds stand in it, each store with its processor, in the order in which they were run.
+#![tactic(auto)]
+
 ghost use Rattle.std.specs.Prelude.{◌≡◌, ℕ, ◌+◌, ◌*◌, ◌≤◌, ◌<◌, length};
 ghost use Rattle.words.specs.Small.{some_below};
 ghost use Rattle.words.specs.Sets.{has as in_set};
@@ -11,7 +13,7 @@ use boards::Buffering;
 use machine::Value;
 
 // A store: its processor, its location and value, and whether it waits in a buffer still.
-#[derive(Drop)]
+#[derive(Clone, Copy)]
 pub struct Logged {
     pub proc: u8,
     pub loc: u8,

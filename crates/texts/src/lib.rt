@@ -1,11 +1,13 @@
 // The text of a case: its definitions, and the bytes of a line.
+#![tactic(auto)]
+
 mod rows;
 
 use cases::{Case, Instr};
 pub use rows::row_body;
 
 // A line of a text: the first one, an old first one, a memory word, a preset, an instruction.
-#[derive(Drop)]
+#[derive(Clone, Copy)]
 pub enum Row {
     Head(u8, u8),
     Old(u8, u8, u8),
@@ -15,7 +17,7 @@ pub enum Row {
 }
 
 // What reading a text answers: the code, the line that 17 or 19 names, whether an old text had a usual bound that is not 0, the case.
-#[derive(Drop)]
+#[derive(Clone, Copy)]
 pub struct TextRead {
     pub code: u8,
     pub line: usize,
@@ -24,7 +26,7 @@ pub struct TextRead {
 }
 
 // What writing a text answers: the code, the text's length, the position that a code of the record carries.
-#[derive(Drop)]
+#[derive(Clone, Copy)]
 pub struct TextWritten {
     pub code: u8,
     pub length: usize,

@@ -43,7 +43,7 @@ one_list block bound size r r' n n' x x' at at' out out' a b =
 
 pub one_board : (kind : ℕ) (block : List ℕ) (bound size r r' n n' x x' at at' : ℕ) (out out' : List ℕ) → BoardListedAs kind block bound size r n x at out → BoardListedAs kind block bound size r' n' x' at' out' → (r ≡ r') × (n ≡ n') × (x ≡ x') × (at ≡ at') × (out ≡ out')
 one_board kind block bound size r r' n n' x x' at at' out out' a b =
-    let same = Boards.outcomes-unique (machine_of kind) block bound size a.answer b.answer at at' out out' a.list b.list in (
+    let same = Boards.outcomes_unique (machine_of kind) block bound size a.answer b.answer at at' out out' a.list b.list in (
       a.code ∙ ap (λ (y : Listed). y.code) same.0 ∙ sym b.code,
       a.count ∙ ap (λ (y : Listed). y.count) same.0 ∙ sym b.count,
       a.cut ∙ ap (λ (y : Listed). mark_of y.cut) same.0 ∙ sym b.cut,

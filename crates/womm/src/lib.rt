@@ -1,4 +1,6 @@
 // The library for a host in another language: byte slices and numbers.
+#![tactic(auto)]
+
 ghost use Rattle.std.specs.Prelude.{length};
 ghost use Rattle.clauses.specs.Wanted.{clauses_of};
 ghost use Rattle.racing.specs.Answer.{RacedAs};
@@ -118,7 +120,7 @@ pub extern "C" fn womm_outcomes(
 // What asking for one result hands back: the code, the marks of yes and of cut (1 yes, 0 no), the schedule's length in bytes, and the position that a
 // block's code carries, 0 with any other.
 #[repr(C)]
-#[derive(Drop)]
+#[derive(Clone, Copy)]
 pub struct Answer {
     pub code: u32,
     pub yes: usize,

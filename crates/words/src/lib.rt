@@ -1,4 +1,6 @@
 // Sets of numbers below 64, one bit a number; bytes as numbers.
+#![tactic(auto)]
+
 ghost use Rattle.std.specs.Prelude.{◌≡◌, ◌^◌, ◌<◌, get_or};
 ghost use Rattle.words.specs.Sets.{has as in_set};
 ghost use Rattle.words.specs.Numbers.{Exact};

@@ -1,4 +1,6 @@
 // Writing the text of a case.
+#![tactic(auto)]
+
 mod writer;
 
 ghost use Rattle.std.specs.Prelude.{◌≡◌, length};

@@ -1,0 +1,7 @@
+use Rattle.cases.specs.Block.{bad7}
+use Rattle.cases.proofs.faults.bad7.Goals as goal
+
+pub returns : goal.returns
+unfolding bad7
+returns c =
+    rw (c.marked.ensures, c.within-2.ensures, c.within.ensures, c.used-used.ensures, c.past-2.ensures, c.past.ensures)

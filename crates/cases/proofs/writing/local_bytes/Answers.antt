@@ -1,0 +1,13 @@
+use Rattle.cases.proofs.writing.local_bytes.Goals as goal
+
+pub returns-in-Constant : goal.returns-in-Constant
+returns-in-Constant c = cc
+
+pub returns-in-Sum : goal.returns-in-Sum
+returns-in-Sum c = cc
+
+pub returns-in-Difference : goal.returns-in-Difference
+returns-in-Difference c = cc
+
+pub returns-in-Equal : goal.returns-in-Equal
+returns-in-Equal c = cc
