@@ -1,3 +1,2 @@
 // The first bad line of a text, found line by line: laws, no code.
 #![tactic(auto)]
-

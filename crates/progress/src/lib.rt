@@ -1,3 +1,2 @@
 // Nobody waits without cause: definitions and laws, no code.
 #![tactic(auto)]
-

@@ -1,3 +1,2 @@
 // Happens-before and the first race: definitions and laws, no code.
 #![tactic(auto)]
-

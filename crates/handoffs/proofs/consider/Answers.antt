@@ -1,0 +1,23 @@
+use Rattle.handoffs.proofs.Parts.{considered, passed_by, touched_word, asked_askable}
+use Rattle.handoffs.proofs.consider.Goals as goal
+
+pub improve-requires : goal.improve-requires
+improve-requires c =
+    let a = c.args in
+    record {
+      fit = c.requires.fit;
+      bound = c.requires.bound;
+      askable = asked_askable a.ready a.k c.asked_for.ensures c.requires.ready_low (c.requires.low (touched_word a.sending a.d c.touched_by.ensures c.if-touched_by.true));
+      level = c.requires.level;
+      long = c.requires.long;
+    }
+
+pub returns-then-touched_by : goal.returns-then-touched_by
+returns-then-touched_by c =
+    let a = c.args in
+    considered a.sending a.ready a.d a.k c.asked_for.result c.touched_by.ensures c.if-touched_by.true c.asked_for.ensures c.improve.ensures
+
+pub returns : goal.returns
+returns c =
+    let a = c.args in
+    passed_by a.sending a.ready a.d a.k c.touched_by.ensures c.if-touched_by.false

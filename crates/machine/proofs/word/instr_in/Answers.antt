@@ -1,0 +1,41 @@
+use mathlib.Core.Path.{ap, sym}
+use Prim.Native.Nat.{ℕ}
+use Rattle.machine.specs.Word.{instr_in}
+use Rattle.cases.proofs.Decoding.{no_instr}
+use Rattle.machine.proofs.word.instr_in.Goals as goal
+
+pub returns-in-1 : goal.returns-in-1
+returns-in-1 c = rw c.in-1.is
+
+pub returns-in-2 : goal.returns-in-2
+returns-in-2 c = rw c.in-2.is
+
+pub returns-in-3 : goal.returns-in-3
+returns-in-3 c = let a = c.args in ap (λ (op : ℕ). instr_in op a.d a.n) (sym c.in-3.is)
+
+pub returns-in-4 : goal.returns-in-4
+returns-in-4 c = rw c.in-4.is
+
+pub returns-in-5 : goal.returns-in-5
+returns-in-5 c = rw c.in-5.is
+
+pub returns-in-6 : goal.returns-in-6
+returns-in-6 c = rw c.in-6.is
+
+pub returns-in-7 : goal.returns-in-7
+returns-in-7 c = let a = c.args in ap (λ (op : ℕ). instr_in op a.d a.n) (sym c.in-7.is)
+
+pub returns-in-8 : goal.returns-in-8
+returns-in-8 c = let a = c.args in ap (λ (op : ℕ). instr_in op a.d a.n) (sym c.in-8.is)
+
+pub returns-in-9 : goal.returns-in-9
+returns-in-9 c = rw c.in-9.is
+
+pub returns-in-10 : goal.returns-in-10
+returns-in-10 c = rw c.in-10.is
+
+pub returns-in_default : goal.returns-in_default
+returns-in_default c =
+    let a = c.args in
+    let no = c.in_default.in_default-own.rest in
+    no_instr a.op a.d _ _ _ no.0.0.0.0.0.0.0.0.0.1 no.0.0.0.0.0.0.0.0.1 no.0.0.0.0.0.0.0.1 no.0.0.0.0.0.0.1 no.0.0.0.0.0.1 no.0.0.0.0.1 no.0.0.0.1 no.0.0.1 no.0.1 no.1

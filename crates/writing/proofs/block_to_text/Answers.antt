@@ -1,0 +1,14 @@
+use lib.ListN.{length}
+use Rattle.writing.proofs.Writes.{texts_no, texts_yes}
+use Rattle.writing.proofs.block_to_text.Goals as goal
+
+pub returns-then-code-ne0 : goal.returns-then-code-ne0
+returns-then-code-ne0 c =
+    let read = c.read_case-read in
+    texts_no c.args.block.now (length c.args.out.now) read.result read.ensures _ c.if-code-ne0.true c.clear.ensures
+
+pub returns : goal.returns
+returns c =
+    let read = c.read_case-read in
+    let written = c.write_text in
+    texts_yes c.args.block.now (length c.args.out.now) read.result read.ensures _ _ c.if-code-ne0.false written.ensures

@@ -1,0 +1,7 @@
+use Rattle.texts.specs.Rows.{line_of}
+use Rattle.writing.proofs.Writes.{line_laid}
+use Rattle.writing.proofs.writer.add.Goals as goal
+
+pub returns : goal.returns
+returns c =
+    line_laid (line_of c.args.row) c.row_body-behind_body.ensures c.word.ensures

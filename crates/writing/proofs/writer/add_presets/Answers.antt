@@ -1,0 +1,24 @@
+use mathlib.Core.Path.{◌≡◌, ap}
+use Prim.Native.Nat.{ℕ}
+use native.Mathlib.Omega.{arith}
+use lib.ListN.{length}
+use Rattle.words.specs.Small.{counting, concat_map}
+use Rattle.lines.proofs.Behind.{laid_as}
+use Rattle.lines.proofs.Rows.{rows_none, rows_more, counted_more}
+use Rattle.writing.specs.Laying.{preset_text}
+use borrow.Author.Rules.{rules}
+use Rattle.writing.proofs.writer.add_presets.Goals as goal
+
+pub loop-n-init : goal.loop-n-init
+loop-n-init c = (search rules, rows_none 40 _ _)
+
+pub loop-n-preserved : goal.loop-n-preserved
+loop-n-preserved c =
+    let one = c.add_preset-to.ensures in
+    (search rules, rows_more c.loop-n.invariant.1 one.0 one.1 (counted_more (preset_text c.args.masks c.args.presets) c.loop-n.n))
+
+pub returns : goal.returns
+returns c =
+    let q : c.loop-n.n ≡ 32 = omega arith in
+    let e = ap (λ (n : ℕ). concat_map (preset_text c.args.masks c.args.presets) (counting 0 n)) q in
+    (laid_as e c.loop-n.invariant.1.laid, omega (arith, ap length e, c.loop-n.invariant.1.short))
