@@ -28,7 +28,7 @@ spared-x-requires c =
 pub loop-j-preserved : goal.loop-j-preserved
 loop-j-preserved c =
     let a = c.args in
-    (search rules, λ x e. ⊎_elim (λ h. let w = c.spared-x.ensures (move_at a.i) c.touched-m.ensures x h in (subst (λ (n : ℕ). has a.done n ≡ true) (sym w.here) w.had, subst (λ (n : ℕ). apart a.k a.c (shown a.k a.c a.s) (move_at a.i) (move_at n) ≡ true) (sym w.here) w.far)) (c.loop-j.invariant.1 x) (or_cases _ _ (sym (has_or c.spared-x.result c.loop-j.false x) ∙ e)))
+    (search rules, λ x e. ⊎_elim (λ h. let w = c.spared-x.ensures (move_at a.i) c.touched-m.ensures x h in (subst (λ (n : ℕ). has a.done n ≡ true) (sym w.here) w.had, subst (λ (n : ℕ). apart a.k a.c (shown a.k a.c a.s) (move_at a.i) (move_at n) ≡ true) (sym w.here) w.far)) (c.loop-j.invariant.1 x) (or_cases _ _ (sym (has_or c.spared-x.result c.loop-j.left x) ∙ e)))
 
 pub returns : goal.returns
 returns c = let L = c.loop-j.invariant.1 in record { had = λ j e. (L j e).0; far = λ j e _. (L j e).1 }
