@@ -1,3 +1,4 @@
+use Rattle.rules.specs.Kinds.{kind}
 use mathlib.Core.Path.{refl, sym, ◌∙◌, ap, subst}
 use Prim.Native.Nat.{ℕ, ◌+◌, ◌*◌, ◌-◌, ◌/◌, ◌%◌}
 use native.Mathlib.Omega.{arith}

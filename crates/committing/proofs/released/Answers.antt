@@ -1,3 +1,4 @@
+use Rattle.rules.specs.Kinds.{releasing}
 use mathlib.Core.Path.{◌≡◌, ◌∙◌, sym, ap, subst}
 use Prim.Native.Nat.{ℕ, ◌+◌}
 use mathlib.Core.Bool.{false, ◌&&◌}

@@ -1,3 +1,4 @@
+use Rattle.rules.specs.Kinds.{reads as reads_of}
 use mathlib.Core.Path.{◌≡◌, ◌∙◌}
 use mathlib.Core.Bool.{◌&&◌, ◌||◌, not}
 use lib.Dec.{ltb}

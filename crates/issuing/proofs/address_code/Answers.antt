@@ -1,3 +1,4 @@
+use Rattle.rules.specs.Kinds.{kind, accesses}
 use mathlib.Core.Path.{◌≡◌, ◌∙◌, sym, ap}
 use mathlib.Core.Bool.{true, false, ◌||◌}
 use Prim.Native.Nat.{ℕ}

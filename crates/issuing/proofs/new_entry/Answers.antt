@@ -1,3 +1,4 @@
+use Rattle.rules.specs.Kinds.{reads as reads_of}
 use mathlib.Core.Path.{◌≡◌, ◌∙◌, ap}
 use Prim.Native.Nat.{ℕ, ◌+◌, ◌*◌}
 use native.Mathlib.Omega.{arith}

@@ -1,3 +1,4 @@
+use Rattle.rules.specs.Kinds.{kind}
 use mathlib.Core.Path.{◌∙◌, sym, ap}
 use mathlib.Core.Bool.{false≢true}
 use mathlib.Core.Option.{Option}

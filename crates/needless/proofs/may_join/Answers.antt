@@ -1,3 +1,4 @@
+use Rattle.rules.specs.Kinds.{assigns}
 use mathlib.Core.Path.{◌∙◌, sym, ap}
 use mathlib.Core.Bool.{false≢true}
 use borrow.Author.Tests.{not-true}

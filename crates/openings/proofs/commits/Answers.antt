@@ -1,3 +1,4 @@
+use Rattle.rules.specs.Kinds.{reading}
 use Rattle.spending.proofs.Rests.{no_set}
 use Rattle.spending.specs.Words.{opens}
 use Rattle.openings.proofs.Queued.{lead_kind}

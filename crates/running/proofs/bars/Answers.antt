@@ -1,3 +1,4 @@
+use Rattle.rules.specs.Kinds.{accesses, syncs}
 use mathlib.Core.Path.{◌≡◌, ◌∙◌, ap}
 use mathlib.Core.Bool.{◌&&◌, ◌||◌}
 use Prim.Native.Nat.{ℕ}

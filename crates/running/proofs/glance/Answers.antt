@@ -1,3 +1,4 @@
+use Rattle.rules.specs.Kinds.{kind, reading, writing, syncs}
 use mathlib.Core.Path.{◌≡◌, ◌∙◌, ap}
 use mathlib.Core.Bool.{not, ◌&&◌, ◌||◌}
 use Prim.Native.Nat.{ℕ, ◌%◌}

@@ -1,3 +1,4 @@
+use Rattle.rules.specs.Kinds.{kind, acquiring}
 use Rattle.spending.proofs.Rests.{acquire_input, rivals_first, rivals-second, rivals-both}
 use Rattle.machine.specs.Shown.{shown_entry}
 use Rattle.machine.proofs.Entries.{action_at_lem}
