@@ -1,3 +1,4 @@
+use Rattle.rules.specs.Kinds.{kind}
 use Rattle.rules.specs.Kinds.{reading}
 use mathlib.Core.Path.{◌≡◌, ◌∙◌, ap}
 use mathlib.Core.Bool.{true}
