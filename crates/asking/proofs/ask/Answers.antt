@@ -6,10 +6,6 @@ use Rattle.cases.proofs.Puts.{long_of}
 use Rattle.asking.proofs.ask.Goals as goal
 
 -- The block's codes, 10, 12 and 13 first, then the answer for the case that was read. Assumes nothing.
--- the clauses held by value are eight
-sized : (s : lts.Start (read-case-reads.Asked, read-case-reads.Learnt, refuse-reads.Asked, refuse-reads.Learnt, unaskable-reads.Asked, unaskable-reads.Learnt, settle-reads.Asked, settle-reads.Learnt) reads.Pre reads.Post) → length s.args.asked.clauses ≡ 8
-sized s = search (long_of, rules)
-
 pub returns-then-code-ne0 : goal.returns-then-code-ne0
 returns-then-code-ne0 c =
     let a = c.args in
@@ -33,7 +29,7 @@ returns-then-out-ne384 c =
 pub settle-requires : goal.settle-requires
 settle-requires c =
     let a = c.args in
-    let long = sized c.before.before.before.before.before.before.before.before.before.before in
+    let long : length a.asked.clauses ≡ 8 = search (long_of, rules) in
     record {
       fit = read_fit a.block.now c.read_case-read.ensures c.if-code-ne0.false;
       few = c.if-bound-gt96.false;
@@ -44,5 +40,5 @@ settle-requires c =
 pub returns : goal.returns
 returns c =
     let a = c.args in
-    let long = sized c.before.before.before.before.before.before.before.before.before.before.before.before.before in
+    let long : length a.asked.clauses ≡ 8 = search (long_of, rules) in
     settled_case a.block.now c.read_case-read.ensures a.bound a.asked (length a.out.now) c.if-code-ne0.false c.if-bound-gt96.false (sym c.unaskable.ensures ∙ c.if-unaskable.false) long c.if-out-ne384.false c.settle.ensures

@@ -7,6 +7,7 @@ use Rattle.searching.proofs.Opened.{opens_step}
 use Rattle.asking.specs.Inner.{step_at}
 use Rattle.asking.proofs.Descent.{scanning_at, next_at, standing_next, held_after_lem, vain_after, skipped_start, skipped_more, first_here, first_none}
 use Rattle.asking.proofs.first_in_reach.Goals as goal
+use Rattle.asking.proofs.first_in_reach.Goals.{then-j-to+else-r, else-j-to}
 
 pub loop-at-init : goal.loop-at-init
 loop-at-init c = let a = c.args in skipped_start a.c (wanted a.asked) (shown a.c a.m) (a.n - 1) a.from a.to c.requires.rising
@@ -53,7 +54,10 @@ pub loop-at-preserved : goal.loop-at-preserved
 loop-at-preserved c =
     let a = c.args in
     skipped_more a.c (wanted a.asked) (shown a.c a.m) (a.n - 1) c.loop-at.invariant c.next_step-j.result (next_at c.requires.standing c.next_step-j.ensures)
-    (⊎_elim (λ w l. vain_after (shown a.c a.m) (step_at (shown a.c a.m) c.next_step-j.result) w.1.ensures.shows w.2.ensures w.3.left) (λ w l. absurd (omega (arith, w.left))) c.if-j-to.branch)
+    (elim c.if-j-to.branch [
+      | then-j-to+else-r w ↦ λ l. vain_after (shown a.c a.m) (step_at (shown a.c a.m) c.next_step-j.result) w.after_step.ensures.shows w.within_reach-r.ensures w.if-r.false
+      | else-j-to w ↦ λ l. absurd (omega (arith, w.if-j-to.false, l))
+    ])
 
 pub returns : goal.returns
 returns c =

@@ -63,7 +63,7 @@ loop-left-smaller c =
 pub loop-left-preserved : goal.loop-left-preserved
 loop-left-preserved c =
     let a = c.args in
-    subst (Descending a.c (wanted a.asked) a.n c.after_step-m.result (c.loop-left.false - 1) (c.loop-left.at + 4)) (sym c.put_step.ensures)
+    subst (Descending a.c (wanted a.asked) a.n c.after_step-m.result (c.loop-left.left - 1) (c.loop-left.at + 4)) (sym c.put_step.ensures)
     (descending_more a.c (wanted a.asked) a.n c.requires.few c.loop-left.invariant (omega (arith, c.loop-left-test.true)) (sym (ended_at c.loop-left.invariant.valid c.finished-done.ensures) ∙ c.if-done.false) c.lowest_step-j.result c.lowest_step-j.ensures c.after_step-m.ensures c.bytes_at.ensures)
 
 pub returns : goal.returns

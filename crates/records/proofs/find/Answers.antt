@@ -1,9 +1,8 @@
-use mathlib.Core.Path.{◌≡◌, sym, ap, ◌∙◌}
+use mathlib.Core.Path.{sym, ap, ◌∙◌}
 use Prim.Native.Nat.{ℕ, ◌+◌, ◌/◌, ◌-◌}
 use native.Mathlib.Omega.{arith}
 use mathlib.Core.List.{List}
 use Rattle.runs.specs.Listing.{below}
-use Rattle.records.specs.Buffer.{record_at}
 use Rattle.records.proofs.Buffer.{record_part}
 use Rattle.records.proofs.Places.{between_all, between_up, between_down}
 use Rattle.records.proofs.find.Goals as goal
@@ -16,24 +15,15 @@ loop-low-init c =
     let args = c.args in
     (omega arith, omega arith, between_all args.out.now args.n args.r.now)
 
--- what `below` says of the record at mid
-compared : (c : goal.After-below) →
-    let args = c.args in
-    c.below.result ≡ below (record_at args.out.now (c.loop-low.low + (c.loop-low.high - c.loop-low.low) / 2)) args.r.now
-compared c =
-    let args = c.args in
-    let mid = c.loop-low.low + (c.loop-low.high - c.loop-low.low) / 2 in
-    c.below.ensures ∙ ap (λ (x : List ℕ). below x args.r.now) (record_part args.out.now mid)
-
 pub loop-low-preserved-then-below : goal.loop-low-preserved-then-below
 loop-low-preserved-then-below c =
     let mid = c.loop-low.low + (c.loop-low.high - c.loop-low.low) / 2 in
-    (omega arith, omega arith, between_up c.requires.held c.args.r.now c.loop-low.invariant.2 mid (omega arith) (sym (compared c.before) ∙ c.if-below.true))
+    (omega arith, omega arith, between_up c.requires.held c.args.r.now c.loop-low.invariant.2 mid (omega arith) (sym (c.below.ensures ∙ ap (λ (x : List ℕ). below x c.args.r.now) (record_part c.args.out.now mid)) ∙ c.if-below.true))
 
 pub loop-low-preserved : goal.loop-low-preserved
 loop-low-preserved c =
     let mid = c.loop-low.low + (c.loop-low.high - c.loop-low.low) / 2 in
-    (omega arith, omega arith, between_down c.requires.held c.args.r.now c.loop-low.invariant.2 mid (sym (compared c.before) ∙ c.if-below.false))
+    (omega arith, omega arith, between_down c.requires.held c.args.r.now c.loop-low.invariant.2 mid (sym (c.below.ensures ∙ ap (λ (x : List ℕ). below x c.args.r.now) (record_part c.args.out.now mid)) ∙ c.if-below.false))
 
 pub returns : goal.returns
 returns c =

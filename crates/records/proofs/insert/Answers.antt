@@ -21,4 +21,4 @@ returns c =
     let n = c.args.n in
     let size : length r ≡ 96 = omega (arith, c.well_formed) in
     inserted_put c.requires c.find-at.ensures (λ m. true≢false (sym (c.there.ensures.1 m) ∙ c.if-there.false)) size c.if-out-n.false _
-    (put_back out r n c.find-at.result shift.new.0 shift.ensures)
+    (put_back out r n c.find-at.result shift.new.tail shift.ensures)
