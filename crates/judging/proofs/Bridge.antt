@@ -9,7 +9,7 @@ use lib.Dec.{eqb, ltb, leb, lit<}
 use lib.ListN.{length, get_or, replicate, length-append, get_or-replicate}
 use lib.Seq.{get_or-append-add}
 use borrow.Author.Tests.{le-ltb, lt-ltb, le-leb, eqb-true, eqb-false, ltb-false, not-false}
-use Rattle.words.specs.Small.{each, concat_map, or_zero}
+use Rattle.words.specs.Small.{concat_map, or_zero}
 use Rattle.words.specs.Sets.{has}
 use Rattle.words.proofs.Bools.{or_left, or_right, or_none, and_make, and_rest, cond-false, none_below}
 use Rattle.words.proofs.First.{first_none, not_yes}

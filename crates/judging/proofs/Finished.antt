@@ -1,10 +1,10 @@
 -- The case of a draft: its lines are the draft's, it is good; and a case that was reached is the draft's. Assumes nothing.
 use mathlib.Core.Path.{◌≡◌, refl, ap, sym, ◌∙◌, subst}
-use mathlib.Core.Logic.{◌⊎◌, ⊎_elim}
-use mathlib.Core.Bool.{true, false, cond, false≢true}
+use mathlib.Core.Logic.{⊎_elim}
+use mathlib.Core.Bool.{false, cond, false≢true}
 use mathlib.Core.List.{List, ◌∷◌, ◌++◌}
 use mathlib.Core.Option.{Option, none, some}
-use Prim.Native.Nat.{ℕ, zero, suc, ◌+◌, ◌*◌, ◌-◌, ◌/◌, ◌%◌, ◌^◌, ◌<◌, ◌≤◌}
+use Prim.Native.Nat.{ℕ, zero, suc, ◌+◌, ◌*◌, ◌/◌, ◌%◌, ◌^◌, ◌<◌, ◌≤◌}
 use native.Mathlib.Omega.{arith}
 use lib.Dec.{eqb}
 use lib.ListN.{length, get_or}

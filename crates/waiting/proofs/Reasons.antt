@@ -1,5 +1,5 @@
 -- The reason of a processor, from the code that its oldest action's commit would get. Assumes nothing.
-use mathlib.Core.Path.{◌≡◌, refl, sym, ◌∙◌, ap, ap₂}
+use mathlib.Core.Path.{◌≡◌, refl, sym, ◌∙◌, ap}
 use mathlib.Core.Bool.{Bool, true, false, not, cond, ◌&&◌, ◌||◌}
 use mathlib.Core.List.{List, [], ◌∷◌}
 use Prim.Native.Nat.{ℕ, ◌+◌, ◌≤◌, ◌<◌}
@@ -16,7 +16,7 @@ use Rattle.cases.specs.declared.Case.{Case}
 use Rattle.cases.proofs.Lowest.{lowest_hit, lowest-none, no_position}
 use Rattle.rules.specs.Kinds.{acquiring, releasing, reading, syncs}
 use Rattle.rules.specs.State.{State, kind_of, waiting, value_of}
-use Rattle.rules.specs.Commit.{held_back, barred, visible, commit_refusals}
+use Rattle.rules.specs.Commit.{held_back, visible, commit_refusals}
 use Rattle.rules.proofs.Actions.{either}
 use Rattle.progress.specs.Causes.{oldest, lock, causes, cause, reason, reasons}
 use Rattle.progress.proofs.Progress.{barred_is}

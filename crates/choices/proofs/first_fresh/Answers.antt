@@ -1,5 +1,4 @@
 use Rattle.choices.proofs.Fresh.{remain_first, remain_others, fresh-none, fresh_past, fresh_here}
-use borrow.Author.Tests.{not-true, not-false}
 use native.Mathlib.Omega.{arith}
 use mathlib.Core.Path.{◌∙◌, sym}
 use Rattle.choices.proofs.first_fresh.Goals as goal
@@ -21,14 +20,14 @@ returns-then-not-is_spent c =
     let i = c.is_spent in
     let e = c.lowest in
     let a = c.args in
-    fresh_here a.word a.spent.now a.j a.end c.requires c.loop-rest.rest c.loop-rest.invariant e.result e.ensures c.loop-rest-test.true c.if-end-i.false (sym i.ensures ∙ not-true i.result c.if-not-is_spent.true)
+    fresh_here a.word a.spent.now a.j a.end c.requires c.loop-rest.rest c.loop-rest.invariant e.result e.ensures c.loop-rest-test.true c.if-end-i.false (sym i.ensures ∙ c.if-not-is_spent.true)
 
 pub loop-rest-preserved : goal.loop-rest-preserved
 loop-rest-preserved c =
     let i = c.is_spent in
     let e = c.lowest in
     let a = c.args in
-    remain_others a.word a.spent.now a.j a.end c.requires c.loop-rest.rest c.loop-rest.invariant e.result e.ensures (sym i.ensures ∙ not-false i.result c.if-not-is_spent.false) c.others-rest.result (c.others-rest.ensures.1 e.result e.ensures)
+    remain_others a.word a.spent.now a.j a.end c.requires c.loop-rest.rest c.loop-rest.invariant e.result e.ensures (sym i.ensures ∙ c.if-not-is_spent.false) c.others-rest.result (c.others-rest.ensures.1 e.result e.ensures)
 
 pub returns : goal.returns
 returns c =

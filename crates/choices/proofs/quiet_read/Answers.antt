@@ -1,5 +1,4 @@
 use Rattle.choices.proofs.Answers.{quiet_none, quiet-some}
-use borrow.Author.Tests.{not-false}
 use native.Mathlib.Omega.{arith}
 use mathlib.Core.Path.{◌∙◌, sym}
 use Rattle.choices.proofs.quiet_read.Goals as goal
@@ -14,4 +13,4 @@ pub returns : goal.returns
 returns c =
     let f = c.first_settled in
     let e = c.ended in
-    (f.ensures.0, λ t s E D. quiet-some t s f.result.read f.result.sources (sym (e.ensures t s E) ∙ not-false e.result c.if-not-ended.false) (f.ensures.1 t s D))
+    (f.ensures.0, λ t s E D. quiet-some t s f.result.read f.result.sources (sym (e.ensures t s E) ∙ c.if-not-ended.false) (f.ensures.1 t s D))

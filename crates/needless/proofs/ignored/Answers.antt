@@ -14,7 +14,7 @@ loop-k-preserved c =
       omega (arith, c.loop-k.invariant.0),
       λ k s h n.
           let l : c.loop-k.k - 1 < s.count = omega (arith, c.loop-k.invariant.0, h.count, c.loop-k-test.true) in
-          ignored_more s c.loop-k.inner (c.loop-k.k - 1) c.Joined-by.result w.result l (c.loop-k.invariant.1 k s h n) c.Joined-by.ensures (w.ensures k s h n),
+          ignored_more s c.loop-k.inner (c.loop-k.k - 1) c.joined_by-inner.result w.result l (c.loop-k.invariant.1 k s h n) c.joined_by-inner.ensures (w.ensures k s h n),
     )
 
 pub returns : goal.returns

@@ -26,6 +26,6 @@ returns c =
     let z = action_at_lem k a.issued a.acts.now s h a.k c.requires.there ∙ ap (shown_entry k) (sym c.entry_at-e.ensures) in
     record {
       kinds = kinds_test q.result (kind_of (s.actions a.k)) (q.ensures.0 ∙ sym (ap kind_of z)) c.if-q.false;
-      renamed = ap (λ (x : Action). holds_on s a.k (assigns x.instr)) z ∙ sym (c.Holds-on.ensures k s n z) ∙ c.if-holds_on.false;
+      renamed = ap (λ (x : Action). holds_on s a.k (assigns x.instr)) z ∙ sym (c.holds_on.ensures k s n z) ∙ c.if-holds_on.false;
       unread = sym (c.awaited.ensures k s h) ∙ not-true c.awaited.result t;
     }

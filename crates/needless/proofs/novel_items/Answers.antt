@@ -25,8 +25,8 @@ loop-rest-preserved c =
     λ x s m h.
     let k = c.loop-rest.invariant x s m h in
     let i = sym (start.ensures e.result) ∙ k.inside e.result (e.ensures.inside (e.ensures.low p)) in
-    sift_more c.loop-rest.rest e.result c.others-rest.result e.ensures p (c.others-rest.ensures.1 e.result e.ensures) start.result (is_novel x s a.word a.done) c.loop-rest.items c.Joined-by.result c.novel-test.result
-    (c.novel-test.ensures x s m h (and_both (has a.word e.result) _ i).0) c.Joined-by.ensures k
+    sift_more c.loop-rest.rest e.result c.others-rest.result e.ensures p (c.others-rest.ensures.1 e.result e.ensures) start.result (is_novel x s a.word a.done) c.loop-rest.items c.joined_by-items.result c.novel-test.result
+    (c.novel-test.ensures x s m h (and_both (has a.word e.result) _ i).0) c.joined_by-items.ensures k
 
 pub returns : goal.returns
 returns c =

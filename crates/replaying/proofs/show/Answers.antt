@@ -15,9 +15,9 @@ pub loop-i-preserved : goal.loop-i-preserved
 loop-i-preserved c =
     let a = c.args in (
       search rules,
-      length-set c.loop-i.result c.loop-i.i _ ∙ c.loop-i.invariant.1,
+      length-set c.loop-i.res c.loop-i.i _ ∙ c.loop-i.invariant.1,
       λ k p r.
-          filled_more (λ j. get_or (result_bytes k (shown k a.m)) j 0) 0 c.loop-i.result c.loop-i.i c.result_byte-b.result (omega (arith, c.loop-i.invariant.1, c.loop-i-test.true)) (c.result_byte-b.ensures k (shown k a.m) p (record { count = refl; actions = refl }) (λ q. refl) r) (c.loop-i.invariant.2 k p r),
+          filled_more (λ j. get_or (result_bytes k (shown k a.m)) j 0) 0 c.loop-i.res c.loop-i.i c.result_byte-b.result (omega (arith, c.loop-i.invariant.1, c.loop-i-test.true)) (c.result_byte-b.ensures k (shown k a.m) p (record { count = refl; actions = refl }) (λ q. refl) r) (c.loop-i.invariant.2 k p r),
     )
 
 pub returns : goal.returns
@@ -25,4 +25,4 @@ returns c =
     let a = c.args in
     let s = shown a.c a.m in
     let r = c.registers-registers.ensures a.c s refl (record { masks = refl; presets = refl }) (record { count = refl; actions = refl }) refl in
-    result_is a.c s c.loop-i.result c.loop-i.invariant.1 (λ j lt. c.loop-i.invariant.2 a.c refl r j (omega (arith, c.loop-i-test.false)))
+    result_is a.c s c.loop-i.res c.loop-i.invariant.1 (λ j lt. c.loop-i.invariant.2 a.c refl r j (omega (arith, c.loop-i-test.false)))

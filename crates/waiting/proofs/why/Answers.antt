@@ -31,4 +31,4 @@ pub returns : goal.returns
 returns c =
     let a = c.args in
     let z = sym c.if-code-ne0.false ∙ code_is waits a.block.now a.schedule.now (length a.causes.now) _ c.read_case-read.result c.read_case-read.ensures c.refusal-code.ensures in
-    taken waits a.block.now a.schedule.now (length a.causes.now) z c.read_case-read.result.case c.walk-w.result c.show.new.m.1.0 (read_as a.block.now c.read_case-read.ensures (own-none waits a.block.now a.schedule.now (length a.causes.now) z)) c.walk-w.ensures c.show.ensures
+    taken waits a.block.now a.schedule.now (length a.causes.now) z c.read_case-read.result.case c.walk-w.result _ (read_as a.block.now c.read_case-read.ensures (own-none waits a.block.now a.schedule.now (length a.causes.now) z)) c.walk-w.ensures c.show.ensures

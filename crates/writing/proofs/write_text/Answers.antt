@@ -30,12 +30,12 @@ returns-then-n-out c =
     let clear = c.clear in
     let fault = c.fault-fault in
     let size = length c.args.out.now in
-    write_short c.args.case size fault.result fault.ensures c.if-fault-ne0.false _ _ lay.result refl lay.ensures _ (omega (arith, c.if-n-out.true, ap length clear.ensures, length-replicate {A = ℕ} size 0)) clear.ensures
+    write_short c.args.case size fault.result fault.ensures c.if-fault-ne0.false _ _ lay.result refl (lay.ensures.laid, lay.ensures.case_len_bound) _ (omega (arith, c.if-n-out.true, ap length clear.ensures, length-replicate {A = ℕ} size 0)) clear.ensures
 
 pub slice_bounds-word-end : goal.slice_bounds-word-end
 slice_bounds-word-end c =
     let lay = c.lay-n in
-    printed_count (laid_printed lay.ensures.0 (omega (arith, lay.ensures.1)))
+    printed_count (laid_printed lay.ensures.laid (omega (arith, lay.ensures.case_len_bound)))
 
 pub returns : goal.returns
 returns c =
@@ -44,4 +44,4 @@ returns c =
     let clear = c.clear in
     let fault = c.fault-fault in
     let size = length c.args.out.now in
-    write_whole c.args.case size fault.result fault.ensures c.if-fault-ne0.false _ _ lay.result refl lay.ensures _ _ _ _ (omega (arith, c.if-n-out.false, ap length clear.ensures, length-replicate {A = ℕ} size 0)) clear.ensures (printed_text (laid_printed lay.ensures.0 (omega (arith, lay.ensures.1)))) last.ensures
+    write_whole c.args.case size fault.result fault.ensures c.if-fault-ne0.false _ _ lay.result refl (lay.ensures.laid, lay.ensures.case_len_bound) _ _ _ _ (omega (arith, c.if-n-out.false, ap length clear.ensures, length-replicate {A = ℕ} size 0)) clear.ensures (printed_text (laid_printed lay.ensures.laid (omega (arith, lay.ensures.case_len_bound)))) last.ensures

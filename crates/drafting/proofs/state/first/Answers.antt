@@ -8,16 +8,16 @@ use Rattle.judging.specs.Draft.{begin}
 use Rattle.drafting.proofs.state.first.Goals as goal
 
 pub returns-in-Head : goal.returns-in-Head
-returns-in-Head c = subst (λ (r : Row). Outcome c.start.result (begin (line_of r))) (sym c.row.given.1) (c.start.ensures none refl)
+returns-in-Head c = subst (λ (r : Row). Outcome c.start.result (begin (line_of r))) (sym c.in-Head.is) (c.start.ensures none refl)
 
 pub returns-in-Old : goal.returns-in-Old
-returns-in-Old c = subst (λ (r : Row). Outcome c.start-in-Old.result (begin (line_of r))) (sym c.row-in-Old-1.given.1) (c.start-in-Old.ensures (some c.row-in-Old-1.given.0.1.1.0) refl)
+returns-in-Old c = subst (λ (r : Row). Outcome c.start-in-Old.result (begin (line_of r))) (sym c.in-Old.is) (c.start-in-Old.ensures (some c.in-Old.b) refl)
 
 pub returns-in-Mem : goal.returns-in-Mem
-returns-in-Mem c = subst (λ (r : Row). Outcome (record { ok = false; sheet = c.args.s }) (begin (line_of r))) (sym c.row-in-Mem-1.given.1) refl
+returns-in-Mem c = subst (λ (r : Row). Outcome (record { ok = false; sheet = c.args.s }) (begin (line_of r))) (sym c.in-Mem.is) refl
 
 pub returns-in-Reg : goal.returns-in-Reg
-returns-in-Reg c = subst (λ (r : Row). Outcome (record { ok = false; sheet = c.args.s }) (begin (line_of r))) (sym c.row-in-Reg-1.given.1) refl
+returns-in-Reg c = subst (λ (r : Row). Outcome (record { ok = false; sheet = c.args.s }) (begin (line_of r))) (sym c.in-Reg.is) refl
 
 pub returns-in-Op : goal.returns-in-Op
-returns-in-Op c = subst (λ (r : Row). Outcome (record { ok = false; sheet = c.args.s }) (begin (line_of r))) (sym c.row-in-Op-1.given.1) refl
+returns-in-Op c = subst (λ (r : Row). Outcome (record { ok = false; sheet = c.args.s }) (begin (line_of r))) (sym c.in-Op.is) refl

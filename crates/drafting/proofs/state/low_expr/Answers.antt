@@ -5,7 +5,7 @@ use native.Mathlib.Omega.{arith}
 use Rattle.drafting.proofs.state.low_expr.Goals as goal
 
 pub returns-in-Constant : goal.returns-in-Constant
-returns-in-Constant c = let g = c.e-1.given in sym (ap low_expr g.1 ∙ lt-ltb g.0.0 65536 (omega (arith, c.known_told-1.given)))
+returns-in-Constant c = sym (ap low_expr c.in-Constant.is ∙ lt-ltb c.in-Constant.n 65536 (omega arith))
 
 pub returns-in-Sum : goal.returns-in-Sum
 returns-in-Sum c = cc

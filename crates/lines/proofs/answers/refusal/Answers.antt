@@ -6,7 +6,7 @@ use Rattle.lines.proofs.answers.refusal.Goals as goal
 
 pub returns : goal.returns
 unfolding refusal_line
-returns c = (
-  laid_then c.word-behind_word.ensures (laid_then c.decimal-behind_code.ensures c.ending.ensures.laid),
-  refusal_short c.args.code c.args.position (omega (arith, c.ranges.code)) c.ending.ensures.short,
-)
+returns c = record {
+  laid = laid_then c.word-behind_word.ensures (laid_then c.decimal-behind_code.ensures c.ending.ensures.laid);
+  position_len_bound = refusal_short c.args.code c.args.position (omega (arith, c.ranges.code)) c.ending.ensures.short;
+}

@@ -9,4 +9,4 @@ pub returns : goal.returns
 returns c =
     let said = c.decimal-k in
     let n = c.args.n in
-    laid_as (said.ensures.1.1 ∙ spelled said.result (suc n) n (omega arith) said.ensures.1.0) c.word.ensures
+    laid_as (said.ensures.digits ∙ spelled said.result (suc n) n (omega arith) said.ensures.len) c.word.ensures

@@ -19,7 +19,7 @@ returns c =
     let n = length records / 96 in
     let text = concat_map (outcome_line args.procs) (records_in n records) in
     let count : n ≡ length (records_in n records) = sym (records_length n records) in
-    let said = ap (λ (k : ℕ). header_line k args.cut ++ text) count in (
-      laid_as said (laid_then c.header-behind_header.ensures.laid c.outcome_lines.ensures.laid),
-      omega (arith, ap length said, length-append (header_line n args.cut) text, c.header-behind_header.ensures.short, c.outcome_lines.ensures.short),
-    )
+    let said = ap (λ (k : ℕ). header_line k args.cut ++ text) count in record {
+      laid = laid_as said (laid_then c.header-behind_header.ensures.laid c.outcome_lines.ensures.laid);
+      records_len_bound = omega (arith, ap length said, length-append (header_line n args.cut) text, c.header-behind_header.ensures.short, c.outcome_lines.ensures.short);
+    }

@@ -1,6 +1,6 @@
 use Prim.Native.Nat.{◌≤◌, ◌-◌}
 use Rattle.words.specs.Small.{counting, concat_map}
-use Rattle.lines.specs.Outcome.{register_at, registers}
+use Rattle.lines.specs.Outcome.{register_at}
 use Rattle.lines.proofs.Rows.{Rows}
 use Rattle.lines.proofs.outcome.registers.Given as goal
 

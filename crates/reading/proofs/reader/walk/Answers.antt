@@ -1,4 +1,3 @@
-use borrow.Author.Tests.{not-true, not-false}
 use Rattle.reading.proofs.Walking.{going_start, unended, untaken, going_on, ended_all}
 use borrow.Author.Rules.{rules}
 use Rattle.reading.proofs.reader.walk.Goals as goal
@@ -15,12 +14,12 @@ returns-then-e-text c = unended _ _ _ _ _ c.loop-at.invariant _ c.find-e.ensures
 pub returns-then-not-ok : goal.returns-then-not-ok
 returns-then-not-ok c =
     let g = c.loop-at.invariant in
-    untaken _ _ _ _ _ g c.find-e.result c.taken-t.result c.find-e.ensures (search rules) (c.taken-t.ensures g.draft g.holds) (not-true _ c.if-not-ok.true)
+    untaken _ _ _ _ _ g c.find-e.result c.taken-t.result c.find-e.ensures (search rules) (c.taken-t.ensures g.draft g.holds) c.if-not-ok.true
 
 pub loop-at-preserved : goal.loop-at-preserved
 loop-at-preserved c =
     let g = c.loop-at.invariant in
-    going_on _ _ _ _ _ g c.find-e.result c.taken-t.result c.find-e.ensures (search rules) (c.taken-t.ensures g.draft g.holds) (not-false _ c.if-not-ok.false)
+    going_on _ _ _ _ _ g c.find-e.result c.taken-t.result c.find-e.ensures (search rules) (c.taken-t.ensures g.draft g.holds) c.if-not-ok.false
 
 pub returns : goal.returns
 returns c = ended_all _ _ _ _ _ c.loop-at.invariant c.loop-at-test.false

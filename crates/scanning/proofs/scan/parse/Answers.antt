@@ -4,8 +4,8 @@ use Rattle.scanning.proofs.Parsing.{parsed_is}
 use Rattle.scanning.proofs.scan.parse.Goals as goal
 
 pub begins-requires : goal.begins-requires
-begins-requires c = printed_within (laid_printed c.row_body-n.ensures.0 (omega (arith, c.row_body-n.ensures.1)))
+begins-requires c = printed_within (laid_printed c.row_body-n.ensures.laid (omega (arith, c.row_body-n.ensures.row_len_bound)))
 
 pub returns : goal.returns
 returns c =
-    parsed_is _ _ _ _ c.begins.ensures (printed_text (laid_printed c.row_body-n.ensures.0 (omega (arith, c.row_body-n.ensures.1)))) c.guess_row-row.ensures
+    parsed_is _ _ _ _ c.begins.ensures (printed_text (laid_printed c.row_body-n.ensures.laid (omega (arith, c.row_body-n.ensures.row_len_bound)))) c.guess_row-row.ensures

@@ -10,20 +10,25 @@ use Rattle.texts.proofs.rows.row_body.Goals as goal
 
 pub returns-in-Head : goal.returns-in-Head
 returns-in-Head c =
-    let g = c.row.given in row_laid c.args.row (Head g.0.0 g.0.1.0) (quoted "case") (decimal g.0.0 ∷ decimal g.0.1.0 ∷ []) 16 (omega arith) g.1 refl c.two.ensures
+    let done = row_laid c.args.row (Head c.in-Head.p c.in-Head.m) (quoted "case") (decimal c.in-Head.p ∷ decimal c.in-Head.m ∷ []) 16 (omega arith) c.in-Head.is refl (c.two.ensures.laid, c.two.ensures.b_in_bounds) in
+    record { laid = done.0; row_len_bound = done.1 }
 
 pub returns-in-Old : goal.returns-in-Old
 returns-in-Old c =
-    let g = c.row-in-Old-1.given in row_laid c.args.row (Old g.0.0 g.0.1.0 g.0.1.1.0) (quoted "case") (decimal g.0.0 ∷ decimal g.0.1.0 ∷ decimal g.0.1.1.0 ∷ []) 22 (omega arith) g.1 refl c.three.ensures
+    let done = row_laid c.args.row (Old c.in-Old.p c.in-Old.m c.in-Old.u) (quoted "case") (decimal c.in-Old.p ∷ decimal c.in-Old.m ∷ decimal c.in-Old.u ∷ []) 22 (omega arith) c.in-Old.is refl (c.three.ensures.laid, c.three.ensures.c_in_bounds) in
+    record { laid = done.0; row_len_bound = done.1 }
 
 pub returns-in-Mem : goal.returns-in-Mem
 returns-in-Mem c =
-    let g = c.row-in-Mem-1.given in row_laid c.args.row (Mem g.0.0 g.0.1.0) (quoted "mem") (decimal g.0.0 ∷ decimal g.0.1.0 ∷ []) 15 (omega arith) g.1 refl c.two-in-Mem.ensures
+    let done = row_laid c.args.row (Mem c.in-Mem.l c.in-Mem.v) (quoted "mem") (decimal c.in-Mem.l ∷ decimal c.in-Mem.v ∷ []) 15 (omega arith) c.in-Mem.is refl (c.two-in-Mem.ensures.laid, c.two-in-Mem.ensures.b_in_bounds) in
+    record { laid = done.0; row_len_bound = done.1 }
 
 pub returns-in-Reg : goal.returns-in-Reg
 returns-in-Reg c =
-    let g = c.row-in-Reg-1.given in row_laid c.args.row (Reg g.0.0 g.0.1.0 g.0.1.1.0) (quoted "reg") (decimal g.0.0 ∷ decimal g.0.1.0 ∷ decimal g.0.1.1.0 ∷ []) 21 (omega arith) g.1 refl c.three-in-Reg.ensures
+    let done = row_laid c.args.row (Reg c.in-Reg.p c.in-Reg.k c.in-Reg.v) (quoted "reg") (decimal c.in-Reg.p ∷ decimal c.in-Reg.k ∷ decimal c.in-Reg.v ∷ []) 21 (omega arith) c.in-Reg.is refl (c.three-in-Reg.ensures.laid, c.three-in-Reg.ensures.c_in_bounds) in
+    record { laid = done.0; row_len_bound = done.1 }
 
 pub returns-in-Op : goal.returns-in-Op
 returns-in-Op c =
-    let g = c.row-in-Op-1.given in row_laid c.args.row (Op g.0.0 g.0.1.0) (quoted "op") (decimal g.0.0 ∷ instr_words g.0.1.0) 34 (omega arith) g.1 refl (op_laid (quoted "op") g.0.0 g.0.1.0 c.one-behind_number.ensures c.instr.ensures)
+    let done = row_laid c.args.row (Op c.in-Op.p c.in-Op.i) (quoted "op") (decimal c.in-Op.p ∷ instr_words c.in-Op.i) 34 (omega arith) c.in-Op.is refl (op_laid (quoted "op") c.in-Op.p c.in-Op.i (c.one-behind_number.ensures.laid, c.one-behind_number.ensures.a_in_bounds) (c.instr.ensures.laid, c.instr.ensures.i_len_bound)) in
+    record { laid = done.0; row_len_bound = done.1 }

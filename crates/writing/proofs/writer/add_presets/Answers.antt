@@ -15,10 +15,10 @@ loop-n-init c = (search rules, rows_none 40 _ _)
 pub loop-n-preserved : goal.loop-n-preserved
 loop-n-preserved c =
     let one = c.add_preset-to.ensures in
-    (search rules, rows_more c.loop-n.invariant.1 one.0 one.1 (counted_more (preset_text c.args.masks c.args.presets) c.loop-n.n))
+    (search rules, rows_more c.loop-n.invariant.1 one.laid one.none_len_bound (counted_more (preset_text c.args.masks c.args.presets) c.loop-n.n))
 
 pub returns : goal.returns
 returns c =
     let q : c.loop-n.n ≡ 32 = omega arith in
     let e = ap (λ (n : ℕ). concat_map (preset_text c.args.masks c.args.presets) (counting 0 n)) q in
-    (laid_as e c.loop-n.invariant.1.laid, omega (arith, ap length e, c.loop-n.invariant.1.short))
+    record { laid = laid_as e c.loop-n.invariant.1.laid; counting_len_bound = omega (arith, ap length e, c.loop-n.invariant.1.short) }

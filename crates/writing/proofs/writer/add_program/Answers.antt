@@ -16,11 +16,11 @@ pub loop-i-preserved : goal.loop-i-preserved
 loop-i-preserved c =
     let a = c.args in
     let one = c.add-to.ensures in
-    (search rules, rows_more c.loop-i.invariant.1 one.0 one.1 (counted_more (op_text a.code a.p) c.loop-i.i))
+    (search rules, rows_more c.loop-i.invariant.1 one.laid one.row_len_bound (counted_more (op_text a.code a.p) c.loop-i.i))
 
 pub returns : goal.returns
 returns c =
     let a = c.args in
     let q : c.loop-i.i ≡ a.count = omega arith in
     let e = ap (λ (n : ℕ). concat_map (op_text a.code a.p) (counting 0 n)) q in
-    (laid_as e c.loop-i.invariant.1.laid, omega (arith, ap length e, c.loop-i.invariant.1.short, c.requires.1))
+    record { laid = laid_as e c.loop-i.invariant.1.laid; count_len_bound = omega (arith, ap length e, c.loop-i.invariant.1.short, c.requires.1) }

@@ -22,11 +22,11 @@ loop-p-preserved c =
     let a = c.args in
     let one = c.add_program-to.ensures in
     let e = ap (λ (n : ℕ). concat_map (op_text a.code c.loop-p.p) (counting 0 n)) c.wide.ensures.0 in
-    (search rules, rows_more c.loop-p.invariant.1 (laid_as e one.0) (omega (arith, one.1, ap length e)) (counted_more (program_text a.counts a.code) c.loop-p.p))
+    (search rules, rows_more c.loop-p.invariant.1 (laid_as e one.laid) (omega (arith, one.count_len_bound, ap length e)) (counted_more (program_text a.counts a.code) c.loop-p.p))
 
 pub returns : goal.returns
 returns c =
     let a = c.args in
     let q : c.loop-p.p ≡ 4 = omega arith in
     let e = ap (λ (n : ℕ). concat_map (program_text a.counts a.code) (counting 0 n)) q in
-    (laid_as e c.loop-p.invariant.1.laid, omega (arith, ap length e, c.loop-p.invariant.1.short))
+    record { laid = laid_as e c.loop-p.invariant.1.laid; counting_len_bound = omega (arith, ap length e, c.loop-p.invariant.1.short) }

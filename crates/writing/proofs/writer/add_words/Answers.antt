@@ -15,10 +15,10 @@ loop-l-init c = (search rules, rows_none 40 _ _)
 pub loop-l-preserved : goal.loop-l-preserved
 loop-l-preserved c =
     let one = c.add_word-to.ensures in
-    (search rules, rows_more c.loop-l.invariant.1 one.0 one.1 (counted_more (word_text c.args.memory) c.loop-l.l))
+    (search rules, rows_more c.loop-l.invariant.1 one.laid one.v_len_bound (counted_more (word_text c.args.memory) c.loop-l.l))
 
 pub returns : goal.returns
 returns c =
     let q : c.loop-l.l ≡ 8 = omega arith in
     let e = ap (λ (n : ℕ). concat_map (word_text c.args.memory) (counting 0 n)) q in
-    (laid_as e c.loop-l.invariant.1.laid, omega (arith, ap length e, c.loop-l.invariant.1.short))
+    record { laid = laid_as e c.loop-l.invariant.1.laid; counting_len_bound = omega (arith, ap length e, c.loop-l.invariant.1.short) }
