@@ -47,7 +47,7 @@ overflow_add-steps c =
     let a = c.args in
     let l = c.loop-steps in
     let inside : 4 * l.steps + 4 ≤ length a.schedule.now = omega (arith, l.invariant.0, c.loop-steps-test.true, c.requires.whole) in
-    omega (arith, inside, c.requires.good)
+    omega (arith, inside, c.well_formed)
 
 pub loop-steps-smaller : goal.loop-steps-smaller
 loop-steps-smaller c =
