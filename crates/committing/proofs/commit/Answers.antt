@@ -3,63 +3,92 @@ use Prim.Native.Nat.{◌<◌}
 use native.Mathlib.Omega.{arith}
 use Rattle.words.specs.Small.{or_zero}
 use Rattle.machine.specs.declared.Entry.{Entry}
-use Rattle.machine.specs.declared.Machine.{Machine}
 use Rattle.machine.specs.Shown.{shown, Acts}
 use Rattle.machine.specs.Lent.{machine_of}
 use Rattle.committing.proofs.Settling.{commit_low, commit_there, commit_entry, commit_packable, settled_is}
 use Rattle.committing.proofs.commit.Goals as goal
 
--- what an accepted commit is of
-module _ (b : goal.Start) where
-  abbrev m : Machine
-  m = let a = b.args in machine_of a.issued a.places.now b.requires.names a.holders.now a.acts.now a.rows.now a.sets.now
-
-  low : b.args.p < 4
-  low = commit_low b.requires.case m b.args.p b.args.k b.args.src b.requires.accepted
-
-  there : b.args.k < 48
-  there = let q = commit_there b.requires.case m b.args.p b.args.k b.args.src b.requires.accepted in omega (arith, b.requires.accepted.valid.issued)
-
 pub entry_at-e-requires : goal.entry_at-e-requires
-entry_at-e-requires c = there c
+entry_at-e-requires c =
+    let a = c.args in
+    let m = machine_of a.issued a.places.now c.requires.names a.holders.now a.acts.now a.rows.now a.sets.now in
+    let q = commit_there c.requires.case m a.p a.k a.src c.requires.accepted in
+    let there : a.k < 48 = omega (arith, c.requires.accepted.valid.issued) in
+    there
 
 pub overflow_add-k : goal.overflow_add-k
-overflow_add-k c = let q = there c.before.before.before.before.before.before.before.before in omega arith
+overflow_add-k c =
+    let a = c.args in
+    let m = machine_of a.issued a.places.now c.requires.names a.holders.now a.acts.now a.rows.now a.sets.now in
+    let q = commit_there c.requires.case m a.p a.k a.src c.requires.accepted in
+    let there : a.k < 48 = omega (arith, c.requires.accepted.valid.issued) in
+    omega arith
 
 pub order_acquire-requires : goal.order_acquire-requires
 order_acquire-requires c =
-    let q = there c.before.before.before.before.before.before.before.before in
+    let a = c.args in
+    let m = machine_of a.issued a.places.now c.requires.names a.holders.now a.acts.now a.rows.now a.sets.now in
+    let q = commit_there c.requires.case m a.p a.k a.src c.requires.accepted in
+    let there : a.k < 48 = omega (arith, c.requires.accepted.valid.issued) in
     record { issued = c.requires.accepted.valid.issued; item = omega arith; rows_long = c.requires.accepted.valid.rows_long }
 
 pub settle_sets-requires : goal.settle_sets-requires
 settle_sets-requires c =
-    record { sets_long = c.requires.accepted.valid.kept.long; proc = low c.before.before.before.before.before.before.before.before.before.before; action = there c.before.before.before.before.before.before.before.before.before.before }
+    let a = c.args in
+    let m = machine_of a.issued a.places.now c.requires.names a.holders.now a.acts.now a.rows.now a.sets.now in
+    let q = commit_there c.requires.case m a.p a.k a.src c.requires.accepted in
+    let there : a.k < 48 = omega (arith, c.requires.accepted.valid.issued) in
+    let low = commit_low c.requires.case m a.p a.k a.src c.requires.accepted in
+    record { sets_long = c.requires.accepted.valid.kept.long; proc = low; action = there }
 
 pub lock-requires : goal.lock-requires
 lock-requires c =
-    record { proc = low c.before.before.before.before.before.before.before.before.before.before.before.before; holders_long = c.requires.accepted.valid.holders_long }
+    let a = c.args in
+    let m = machine_of a.issued a.places.now c.requires.names a.holders.now a.acts.now a.rows.now a.sets.now in
+    let low = commit_low c.requires.case m a.p a.k a.src c.requires.accepted in
+    record { proc = low; holders_long = c.requires.accepted.valid.holders_long }
 
 pub bounds-places-p : goal.bounds-places-p
-bounds-places-p c = low c.before.before.before.before.before.before.before.before.before.before.before.before.before.before
+bounds-places-p c =
+    let a = c.args in
+    let m = machine_of a.issued a.places.now c.requires.names a.holders.now a.acts.now a.rows.now a.sets.now in
+    let low = commit_low c.requires.case m a.p a.k a.src c.requires.accepted in
+    low
 
 pub place_by-requires : goal.place_by-requires
 place_by-requires c =
     let a = c.args in
-    subst (λ (c.before.before.before.before.before.before.before.before.before.before.before.before.before.before.before : Entry). c.place < 12) (sym c.entry_at-e.ensures) (commit_entry c.requires.case (m c.before.before.before.before.before.before.before.before.before.before.before.before.before.before.before) a.p a.k a.src c.requires.accepted).place
+    let m = machine_of a.issued a.places.now c.requires.names a.holders.now a.acts.now a.rows.now a.sets.now in
+    subst (λ (e : Entry). e.place < 12) (sym c.entry_at-e.ensures) (commit_entry c.requires.case m a.p a.k a.src c.requires.accepted).place
 
 pub bounds-places-p-2 : goal.bounds-places-p-2
-bounds-places-p-2 c = low c.before.before.before.before.before.before.before.before.before.before.before.before.before.before.before.before
+bounds-places-p-2 c =
+    let a = c.args in
+    let m = machine_of a.issued a.places.now c.requires.names a.holders.now a.acts.now a.rows.now a.sets.now in
+    let low = commit_low c.requires.case m a.p a.k a.src c.requires.accepted in
+    low
 
 pub packed-requires : goal.packed-requires
 packed-requires c =
     let a = c.args in
-    commit_packable c.requires.case (m c.before.before.before.before.before.before.before.before.before.before.before.before.before.before.before.before) a.p a.k a.src c.requires.accepted c.entry_at-e.result c.result_by-result.result c.entry_at-e.ensures
+    let m = machine_of a.issued a.places.now c.requires.names a.holders.now a.acts.now a.rows.now a.sets.now in
+    commit_packable c.requires.case m a.p a.k a.src c.requires.accepted c.entry_at-e.result c.result_by-result.result c.entry_at-e.ensures
 
 pub offset_bounds-acts-k : goal.offset_bounds-acts-k
-offset_bounds-acts-k c = let q = there c.before.before.before.before.before.before.before.before.before.before.before.before.before.before.before.before.before in omega arith
+offset_bounds-acts-k c =
+    let a = c.args in
+    let m = machine_of a.issued a.places.now c.requires.names a.holders.now a.acts.now a.rows.now a.sets.now in
+    let q = commit_there c.requires.case m a.p a.k a.src c.requires.accepted in
+    let there : a.k < 48 = omega (arith, c.requires.accepted.valid.issued) in
+    omega arith
 
 pub bounds-acts-k : goal.bounds-acts-k
-bounds-acts-k c = there c.before.before.before.before.before.before.before.before.before.before.before.before.before.before.before.before.before.before
+bounds-acts-k c =
+    let a = c.args in
+    let m = machine_of a.issued a.places.now c.requires.names a.holders.now a.acts.now a.rows.now a.sets.now in
+    let q = commit_there c.requires.case m a.p a.k a.src c.requires.accepted in
+    let there : a.k < 48 = omega (arith, c.requires.accepted.valid.issued) in
+    there
 
 pub returns : goal.returns
 returns c =

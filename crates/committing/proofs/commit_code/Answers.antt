@@ -18,7 +18,7 @@ returns-then-not-queued c =
     let e = c.entry_at-e in
     let t = c.if-issued-k.false in
     λ x s q h v.
-    commit_gone x s a.p a.k a.src (shown_entry x e.result) (action_at_lem x a.issued a.acts.now s h a.k t ∙ ap (shown_entry x) (sym e.ensures)) (omega (arith, h.count, t)) (ap not (sym (c.queued.ensures x)) ∙ c.if-not-queued.true)
+    commit_gone x s a.p a.k a.src (shown_entry x e.result) (action_at_lem x a.issued a.acts.now s h a.k t ∙ ap (shown_entry x) (sym e.ensures)) (omega (arith, h.count, t)) (ap not (sym (c.queued.ensures x) ∙ c.if-not-queued.true))
 
 pub rest_code-requires : goal.rest_code-requires
 rest_code-requires c =
@@ -40,7 +40,7 @@ returns-then-kind c =
     λ x s q h v.
     let w = shows_at x a.issued a.acts.now s a.masks.now a.presets.now a.rows.now a.sets.now a.holders.now a.locs a.k i q h v c.requires.issued t e.ensures in
     c.rest_code.ensures x s w (λ d. c.input-x.ensures x s q h ∙ sync_first x s i.first i.second i.instr d)
-    ∙ commit_rest x s a.p a.k a.src (shown_entry x i) w.action w.there (ap not (sym (c.queued.ensures x)) ∙ c.if-not-queued.false)
+    ∙ commit_rest x s a.p a.k a.src (shown_entry x i) w.action w.there (ap not (sym (c.queued.ensures x) ∙ c.if-not-queued.false))
 
 pub rest_code-requires-2 : goal.rest_code-requires-2
 rest_code-requires-2 c =
@@ -62,4 +62,4 @@ returns c =
     λ x s q h v.
     let w = shows_at x a.issued a.acts.now s a.masks.now a.presets.now a.rows.now a.sets.now a.holders.now a.locs a.k i q h v c.requires.issued t e.ensures in
     c.rest_code-2.ensures x s w (λ d. absurd (false≢true (sym c.if-kind.false ∙ ap (λ (n : ℕ). eqb n 6 || eqb n 7) c.kind_of-kind.ensures.0 ∙ d)))
-    ∙ commit_rest x s a.p a.k a.src (shown_entry x i) w.action w.there (ap not (sym (c.queued.ensures x)) ∙ c.if-not-queued.false)
+    ∙ commit_rest x s a.p a.k a.src (shown_entry x i) w.action w.there (ap not (sym (c.queued.ensures x) ∙ c.if-not-queued.false))

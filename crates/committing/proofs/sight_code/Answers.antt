@@ -15,7 +15,7 @@ returns-then-not-has c =
     let y = z (eq-eqb a.kind 1 c.if-kind-eq1.true) in
     let v = subst (λ (n : ℕ). Sight x s a.sets.now a.rows.now n a.i) (sym w) y in
     let q : c.has.result ≡ visible x s a.loc a.i a.src = c.has.ensures ∙ c.visible_items.ensures x s v a.src ∙ ap (λ (n : ℕ). visible x s n a.i a.src) w in
-    sight_blind a.kind (visible x s a.loc a.i a.src) c.if-kind-eq1.true (ap not (sym q) ∙ c.if-not-has.true)
+    sight_blind a.kind (visible x s a.loc a.i a.src) c.if-kind-eq1.true (ap not (sym q ∙ c.if-not-has.true))
 
 pub returns-else-not-has : goal.returns-else-not-has
 returns-else-not-has c =
@@ -25,7 +25,7 @@ returns-else-not-has c =
     let y = z (eq-eqb a.kind 1 c.if-kind-eq1.true) in
     let v = subst (λ (n : ℕ). Sight x s a.sets.now a.rows.now n a.i) (sym w) y in
     let q : c.has.result ≡ visible x s a.loc a.i a.src = c.has.ensures ∙ c.visible_items.ensures x s v a.src ∙ ap (λ (n : ℕ). visible x s n a.i a.src) w in
-    sight_clear a.kind (visible x s a.loc a.i a.src) c.if-kind-eq1.true (ap not (sym q) ∙ c.if-not-has.false)
+    sight_clear a.kind (visible x s a.loc a.i a.src) c.if-kind-eq1.true (ap not (sym q ∙ c.if-not-has.false))
 
 pub returns-else-kind-eq1 : goal.returns-else-kind-eq1
 returns-else-kind-eq1 c = let a = c.args in λ x s z. sight_free a.kind (visible x s a.loc a.i a.src) c.if-kind-eq1.false
