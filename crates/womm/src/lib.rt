@@ -1,4 +1,4 @@
-// The library for a host in another language: byte slices and numbers.
+// The library for a host in another language: byte slices and numbers. `womm_c` exports it to C.
 #![tactic(auto)]
 
 ghost use Rattle.std.specs.Prelude.{length};
@@ -13,8 +13,7 @@ use clauses::{Asked, Clause};
 
 // Reads a block: 0 where it holds a case, else the first of codes 1 to 7 and 19; the position that the code carries; and 1 where an accepted block has
 // a usual bound, which is dropped, else 0.
-#[unsafe(no_mangle)]
-pub extern "C" fn womm_read(block: &[u8], position: &mut usize, usual: &mut usize) -> u32
+pub fn womm_read(block: &[u8], position: &mut usize, usual: &mut usize) -> u32
     ensures { ReadAs block.now result position.new usual.new }
 {
     let read = cases::read_case(block);
@@ -25,8 +24,7 @@ pub extern "C" fn womm_read(block: &[u8], position: &mut usize, usual: &mut usiz
 
 // Writes a block: the buffer holds a case in bytes 0 to 509, as the block's table lays it out, loses its usual bound and gets its check. Refused, it is
 // all zeros.
-#[unsafe(no_mangle)]
-pub extern "C" fn womm_write(block: &mut [u8], position: &mut usize) -> u32
+pub fn womm_write(block: &mut [u8], position: &mut usize) -> u32
     ensures { WrittenAs block.old result position.new block.new }
 {
     let fault = cases::seal(block);
@@ -36,8 +34,7 @@ pub extern "C" fn womm_write(block: &mut [u8], position: &mut usize) -> u32
 
 // Replays a schedule: the code, the steps taken, the place of the instruction that the code names (else 255), the block's position, and the
 // result's bytes.
-#[unsafe(no_mangle)]
-pub extern "C" fn womm_replay(
+pub fn womm_replay(
     block: &[u8],
     schedule: &[u8],
     res: &mut [u8],
@@ -57,8 +54,7 @@ pub extern "C" fn womm_replay(
 // Says why each processor waits after a schedule: the code, the steps taken, the place of the instruction that the code names (else 255), the
 // block's position, and a byte for each of the four processors: 0 nothing is queued, 1 its oldest queued action may commit, 2 that reads an
 // undefined register, 3 is an acquire or a release of a location not below M, 4 an acquire of one held by another, 5 a release of one it does not hold.
-#[unsafe(no_mangle)]
-pub extern "C" fn womm_why(
+pub fn womm_why(
     block: &[u8],
     schedule: &[u8],
     causes: &mut [u8],
@@ -77,8 +73,7 @@ pub extern "C" fn womm_why(
 
 // Gives the first race of a schedule after which all queues are empty: the code, the two actions, the earlier first (255 both where there is no race or a
 // code), the steps taken, the place of the instruction that the code names (else 255), the block's position.
-#[unsafe(no_mangle)]
-pub extern "C" fn womm_race(
+pub fn womm_race(
     block: &[u8],
     schedule: &[u8],
     first: &mut usize,
@@ -99,8 +94,7 @@ pub extern "C" fn womm_race(
 }
 
 // Lists the outcomes within a bound: the code, the count, the cut mark (1 yes, 0 no), the block's position, and the records' bytes.
-#[unsafe(no_mangle)]
-pub extern "C" fn womm_outcomes(
+pub fn womm_outcomes(
     block: &[u8],
     bound: u32,
     records: &mut [u8],
@@ -144,8 +138,7 @@ fn ask_held<'b, 's>(block: &'b [u8], bound: u32, asked: Asked, schedule: &'s mut
 }
 
 // Asks whether a finished run within a bound meets all of the clauses, and by which schedule: each clause of the lent slice is read once.
-#[unsafe(no_mangle)]
-pub extern "C" fn womm_ask<'b, 'c, 's>(
+pub fn womm_ask<'b, 'c, 's>(
     block: &'b [u8],
     bound: u32,
     clauses: &'c [Clause],
@@ -163,8 +156,7 @@ pub extern "C" fn womm_ask<'b, 'c, 's>(
 }
 
 // Judges a boot hand-off: the code, the verdict (0 safe, 1 stale, 2 stuck), and the lowest stale schedule with its length in bytes.
-#[unsafe(no_mangle)]
-pub extern "C" fn womm_handoff(
+pub fn womm_handoff(
     sending: &[u8],
     receiving: &[u8],
     schedule: &mut [u8],
@@ -180,8 +172,7 @@ pub extern "C" fn womm_handoff(
 }
 
 // Lists the outcomes on the store-buffer machine of a kind within a bound of instructions; answers as `womm_outcomes` does.
-#[unsafe(no_mangle)]
-pub extern "C" fn womm_board(
+pub fn womm_board(
     kind: u32,
     block: &[u8],
     bound: u32,
@@ -201,13 +192,7 @@ pub extern "C" fn womm_board(
 
 // Reads a text into a block: 17 and 19 on the text with the line that they name, then 1 on a buffer that is not of 512 bytes; and 1 where an old text
 // has a usual bound that is not 0, which is dropped, else 0. Refused, the buffer is all zeros.
-#[unsafe(no_mangle)]
-pub extern "C" fn womm_read_text(
-    text: &[u8],
-    block: &mut [u8],
-    line: &mut usize,
-    usual: &mut usize,
-) -> u32
+pub fn womm_read_text(text: &[u8], block: &mut [u8], line: &mut usize, usual: &mut usize) -> u32
     ensures { TextReadAs text.now (length block.old) result line.new usual.new block.new }
 {
     let typed = reading::text_to_block(text, block);
@@ -218,13 +203,7 @@ pub extern "C" fn womm_read_text(
 
 // Writes the text of a block: the block's codes with their position, then 18 on a buffer that is shorter than the text; and the text's length. Refused, the
 // buffer is all zeros.
-#[unsafe(no_mangle)]
-pub extern "C" fn womm_write_text(
-    block: &[u8],
-    text: &mut [u8],
-    size: &mut usize,
-    position: &mut usize,
-) -> u32
+pub fn womm_write_text(block: &[u8], text: &mut [u8], size: &mut usize, position: &mut usize) -> u32
     ensures { TextWrittenAs block.now (length text.old) result size.new position.new text.new }
 {
     let written = writing::block_to_text(block, text);
