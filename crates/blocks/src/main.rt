@@ -1,72 +1,97 @@
 // Reads the blocks that its arguments name. Of each it prints the code and its position, or for code 0 whether writing the case gives the same bytes again.
 #![tactic(auto)]
 
-use cases::Case;
-use libc::STDOUT_FILENO;
+ghost use Rattle.std.specs.Prelude.{◌≤◌, length};
 
-fn print(text: &[u8]) {
-    io::write_all(STDOUT_FILENO, text);
-}
+use cases::Case;
+use std::env::{Env, FillError};
+use std::fs::File;
+use std::io::Read;
+use std::{io, str};
 
 // Whether writing the case gives the block again.
 fn kept(case: Case, block: &[u8]) -> bool {
     let mut again = [0u8; 512];
     cases::write_case(case, &mut again);
-    check::same(&again, block)
+    &again[..] == block
 }
 
 // What follows code 0.
-fn print_kept(same: bool) {
+fn print_kept(rt: &HostRuntime, same: bool) -> io::Result<()> {
     if same {
-        print(b", written again the same");
+        print!(rt; ", written again the same")
     } else {
-        print(b", written again another");
+        print!(rt; ", written again another")
     }
 }
 
-fn report(name: &[u8], block: &[u8]) {
+fn report(rt: &HostRuntime, name: &str, block: &[u8]) -> io::Result<()> {
     let read = cases::read_case(block);
     let code = read.code;
-    print(name);
-    print(b" code ");
-    io::print_decimal(STDOUT_FILENO, code as u64);
+    print!(rt; "{name} code {code}")?;
     if code == 0 {
         if read.usual {
-            print(b", usual bound dropped");
+            print!(rt; ", usual bound dropped")?;
         }
         let case = read.case;
-        print_kept(kept(case, block));
+        print_kept(rt, kept(case, block))?;
     } else {
-        print(b" at ");
-        io::print_decimal(STDOUT_FILENO, read.position as u64);
+        let position = read.position;
+        print!(rt; " at {position}")?;
     }
-    print(b"\n");
+    println!(rt; "")
+}
+
+// Reads until the bytes are full, the file ends or a read fails. The number of bytes that were read.
+fn read_full(file: &mut File, bytes: &mut [u8]) -> usize
+    ensures { result ≤ length bytes.new }
+{
+    let mut done = 0;
+    while done < bytes.len() {
+        match file.read(&mut bytes[done..]) {
+            Ok(n) if n > 0 => done += n,
+            _ => break,
+        }
+    }
+    done
 }
 
 // A file longer than the buffer is cut to it, and is longer than a block all the same.
-fn report_file(name: &[u8]) {
-    let file = os::open_read(name);
-    if file < 0 {
-        os::fail(name);
-        return;
+fn report_file(rt: &HostRuntime, name: &str) -> io::Result<()> {
+    match File::open(rt, name) {
+        Ok(mut file) => {
+            let mut block = [0u8; 4096];
+            let n = read_full(&mut file, &mut block);
+            report(rt, name, &block[..n])
+        }
+        Err(e) => {
+            let _ = eprintln!(rt; "{name}: {e}");
+            Ok(())
+        }
     }
-    let mut block = io::buffer();
-    let n = io::read_full(file, &mut block);
-    libc::close(file);
-    report(name, &block[..n]);
 }
 
-fn report_argument(k: usize) {
-    let mut name = io::buffer();
-    let n = os::arg(k, &mut name);
-    report_file(&name[..n]);
+// Only a name in UTF-8 can be opened.
+fn report_argument(rt: &HostRuntime, name: &[u8]) -> io::Result<()> {
+    match str::from_utf8(name) {
+        Ok(name) => report_file(rt, name),
+        Err(e) => {
+            let _ = rt.stderr().write_all(name);
+            let _ = eprintln!(rt; ": {e}");
+            Ok(())
+        }
+    }
 }
 
-fn main() {
-    let count = os::arg_count();
-    let mut k: usize = 1;
-    while k < count {
-        report_argument(k);
-        k += 1;
+// A name longer than the buffer is longer than any path: it is taken as empty, and cannot be opened.
+fn main(rt: HostRuntime) -> io::Result<()> {
+    let mut name = [0u8; 4096];
+    for k in 1..usize::MAX {
+        match rt.arg(k, &mut name) {
+            Ok(n) => report_argument(&rt, &name[..n])?,
+            Err(FillError::TooLong) => report_argument(&rt, b"")?,
+            Err(FillError::NotPresent) => break,
+        }
     }
+    Ok(())
 }

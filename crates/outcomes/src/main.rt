@@ -4,7 +4,8 @@
 ghost use Rattle.std.specs.Prelude.{◌≡◌, ◌≤◌, length};
 ghost use Rattle.outcomes.specs.Said.{Listing, Said, Answered};
 
-use libc::{STDIN_FILENO, STDOUT_FILENO};
+use std::io;
+use std::io::{Read, Stdin};
 
 // The bound that a byte stands for.
 fn bound_of(byte: u8) -> u32
@@ -19,7 +20,7 @@ fn list(input: &[u8], text: &mut [u8]) -> usize
     ensures { Answered (Listing input.now) text.old text.new result }
 {
     let bound = bound_of(input[512]);
-    let mut records = io::large_buffer();
+    let mut records = [0u8; 65536];
     let listed = listing::outcomes(&input[0..512], bound, &mut records);
     let code = listed.code;
     if code != 0 {
@@ -40,10 +41,24 @@ fn answer(input: &[u8], text: &mut [u8]) -> usize
     lines::refusal(text, 0, 1, 0)
 }
 
-fn main() {
-    let mut input = io::buffer();
-    let n = io::read_full(STDIN_FILENO, &mut input);
+// Reads until the bytes are full, the input ends or a read fails. The number of bytes that were read.
+fn read_full(input: &mut Stdin, bytes: &mut [u8]) -> usize
+    ensures { result ≤ length bytes.new }
+{
+    let mut done = 0;
+    while done < bytes.len() {
+        match input.read(&mut bytes[done..]) {
+            Ok(n) if n > 0 => done += n,
+            _ => break,
+        }
+    }
+    done
+}
+
+fn main(rt: HostRuntime) -> io::Result<()> {
+    let mut input = [0u8; 4096];
+    let n = read_full(&mut rt.stdin(), &mut input);
     let mut text = [0u8; 145304];
     let end = answer(&input[..n], &mut text);
-    io::write_all(STDOUT_FILENO, &text[..end]);
+    rt.write_all(&text[..end])
 }

@@ -5,7 +5,8 @@ ghost use Rattle.std.specs.Prelude.{◌≤◌, length};
 ghost use Rattle.lines.specs.Laid.{Printed};
 ghost use Rattle.replay.specs.Said.{line_of, said};
 
-use libc::{STDIN_FILENO, STDOUT_FILENO};
+use std::io;
+use std::io::{Read, Stdin};
 
 // The line of a replay.
 fn report(block: &[u8], schedule: &[u8], text: &mut [u8]) -> usize
@@ -28,11 +29,25 @@ fn answer(input: &[u8], text: &mut [u8]) -> usize
     report(&input[0..512], &input[512..], text)
 }
 
+// Reads until the bytes are full, the input ends or a read fails. The number of bytes that were read.
+fn read_full(input: &mut Stdin, bytes: &mut [u8]) -> usize
+    ensures { result ≤ length bytes.new }
+{
+    let mut done = 0;
+    while done < bytes.len() {
+        match input.read(&mut bytes[done..]) {
+            Ok(n) if n > 0 => done += n,
+            _ => break,
+        }
+    }
+    done
+}
+
 // The buffer is longer than a block and the longest schedule: input that fills it has a schedule that is too long, however much follows.
-fn main() {
-    let mut input = io::buffer();
-    let n = io::read_full(STDIN_FILENO, &mut input);
+fn main(rt: HostRuntime) -> io::Result<()> {
+    let mut input = [0u8; 4096];
+    let n = read_full(&mut rt.stdin(), &mut input);
     let mut text = [0u8; 66];
     let end = answer(&input[..n], &mut text);
-    io::write_all(STDOUT_FILENO, &text[..end]);
+    rt.write_all(&text[..end])
 }

@@ -4,8 +4,9 @@
 ghost use Rattle.std.specs.Prelude.{◌≡◌, ◌-◌, ◌≤◌, length};
 ghost use Rattle.shelf.specs.Said.{Answered};
 
-use libc::{STDERR_FILENO, STDIN_FILENO, STDOUT_FILENO};
 use shelves::Reading;
+use std::io;
+use std::io::{IsTerminal, Read, Stderr};
 
 // With so many bytes a shelf has 65,536 blocks: it is refused, whatever follows.
 const MOST: usize = 33554432;
@@ -21,18 +22,18 @@ fn less(most: usize, n: usize) -> usize
 }
 
 // On a terminal, how many blocks were read; what is written next stands over it.
-fn show(left: usize) {
-    if libc::isatty(STDERR_FILENO) != 1 {
+fn show(screen: Stderr, left: usize) {
+    if !screen.is_terminal() {
         return;
     }
-    io::print_decimal(STDERR_FILENO, (less(MOST, left) / 512) as u64);
-    io::write_all(STDERR_FILENO, b" blocks\r");
+    let blocks = less(MOST, left) / 512;
+    let _ = eprint!(screen; "{blocks} blocks\r");
 }
 
 // The same line, empty again.
-fn hide() {
-    if libc::isatty(STDERR_FILENO) == 1 {
-        io::write_all(STDERR_FILENO, b"            \r");
+fn hide(screen: Stderr) {
+    if screen.is_terminal() {
+        let _ = eprint!(screen; "            \r");
     }
 }
 
@@ -44,22 +45,22 @@ fn answer(read: Reading, text: &mut [u8]) -> usize
     shelves::report(text, read)
 }
 
-fn main() {
-    let mut piece = io::large_buffer();
+fn main(rt: HostRuntime) -> io::Result<()> {
+    let mut piece = [0u8; 65536];
     let mut read = shelves::begun();
     let mut left = MOST;
     while left > 0 {
-        let got = libc::read(STDIN_FILENO, &mut piece);
-        let n = io::count(got, &piece);
+        // A read that fails ends the file.
+        let n = rt.stdin().read(&mut piece).unwrap_or(0);
         if n == 0 {
             break;
         }
         read = shelves::read_on(read, &piece[..n]);
         left = less(left, n);
-        show(left);
+        show(rt.stderr(), left);
     }
-    hide();
+    hide(rt.stderr());
     let mut text = [0u8; 318];
     let end = answer(read, &mut text);
-    io::write_all(STDOUT_FILENO, &text[..end]);
+    rt.write_all(&text[..end])
 }
