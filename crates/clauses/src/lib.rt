@@ -1,5 +1,5 @@
-// Clauses over an outcome. The caller owns a short list of records and lends it. `and_holds` does the work on one clause by value, and is covered.
-// `meets` reads the lent slice, one clause after the other: a walk of its MIR with a loop, by hand.
+// Clauses over an outcome. The caller owns a short list of records and lends it. `and_holds` does the work on one clause by value;
+// `meets` reads the lent slice, one clause after the other.
 #![tactic(auto)]
 
 ghost use Rattle.std.specs.Prelude.{◌≡◌, ℕ, ◌+◌, ◌*◌, ◌<◌, ◌≤◌, ◌&&◌, eqb, length, take};
@@ -49,7 +49,7 @@ fn and_holds(met: bool, c: Clause, outcome: &[u8]) -> bool
     if met { holds(c, outcome) } else { false }
 }
 
-// The thin function: whether every clause of the lent slice holds of the outcome.
+// Whether every clause of the lent slice holds of the outcome.
 fn meets<'c, 'o>(clauses: &'c [Clause], outcome: &'o [u8]) -> bool
     requires { (length outcome.now ≡ 96) × AllNamed clauses.now }
     ensures { result ≡ meets_all clauses.now outcome.now }
@@ -63,14 +63,14 @@ fn meets<'c, 'o>(clauses: &'c [Clause], outcome: &'o [u8]) -> bool
     met
 }
 
-// Up to 8 clauses by value, for the covered functions of a search.
+// Up to 8 clauses by value, as a search holds them.
 #[derive(Clone, Copy)]
 pub struct Asked {
     pub clauses: [Clause; 8],
     pub count: usize,
 }
 
-// The thin function's caller where the clauses are held by value: it lends the first n of them. A walk with no loop, whose callers are covered.
+// The same where the clauses are held by value: it lends the first n of them.
 fn meets_first(cs: [Clause; 8], n: usize, outcome: &[u8]) -> bool
     requires { (length outcome.now ≡ 96) × (n ≤ 8) × AllNamed (take n cs) }
     ensures { result ≡ meets_all (take n cs) outcome.now }
@@ -78,7 +78,7 @@ fn meets_first(cs: [Clause; 8], n: usize, outcome: &[u8]) -> bool
     meets(&cs[0..n], outcome)
 }
 
-// A covered caller.
+// The same of clauses that are held in one record.
 pub fn asked_meets(a: Asked, outcome: &[u8]) -> bool
     requires { (length outcome.now ≡ 96) × Askable a }
     ensures { result ≡ wanted a outcome.now }
@@ -89,6 +89,7 @@ pub fn asked_meets(a: Asked, outcome: &[u8]) -> bool
 }
 
 // One clause more; those past the eighth are only counted.
+#[tactic(auto, using(std::proofs::lemmas::Bool::Decides::nat_tests))]
 pub fn with_clause(a: Asked, c: Clause) -> Asked
     requires { a.count < 4611686018427387904 }
     ensures { result ≡ with_clause a c }

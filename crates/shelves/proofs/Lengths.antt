@@ -1,8 +1,8 @@
 -- How long a report can be: a text of 512 bytes has room for it. Assumes nothing.
-use mathlib.Core.Path.{◌≡◌, refl, ap}
+use mathlib.Core.Path.{◌≡◌, refl}
 use mathlib.Core.Bool.{Bool, true, false, cond}
 use mathlib.Core.List.{List, [], ◌∷◌, ◌++◌}
-use Prim.Native.Nat.{ℕ, ◌+◌, ◌*◌, ◌%◌, ◌≤◌, ◌<◌}
+use Prim.Native.Nat.{ℕ, ◌+◌, ◌*◌, ◌≤◌, ◌<◌}
 use native.Mathlib.Nat.{mul-suc}
 use native.Mathlib.Omega.{arith}
 use lib.Dec.{ltb}
@@ -11,7 +11,6 @@ use borrow.Author.Tests.{ltb-true, ltb-false}
 use Rattle.words.specs.Small.{all, counting}
 use Rattle.words.proofs.Bools.{and_both}
 use Rattle.lines.specs.Quoted.{quoted}
-use Rattle.lines.specs.Decimal.{decimal}
 use Rattle.lines.proofs.Digits.{decimal_few}
 use Rattle.shelves.specs.Blocks.{blocks_of, left_over}
 use Rattle.shelves.specs.Counts.{codes, refused, instructions}

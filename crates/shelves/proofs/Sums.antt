@@ -1,14 +1,14 @@
 -- Accepted plus all refused are the whole blocks. Assumes nothing.
 use mathlib.Core.Path.{◌≡◌, refl, sym, ap, ◌∙◌}
-use mathlib.Core.Logic.{inl, inr, ⊎_elim}
+use mathlib.Core.Logic.{⊎_elim}
 use mathlib.Core.Bool.{Bool, true, false, ◌&&◌, ◌||◌, not, cond, false≢true}
 use mathlib.Core.List.{List, [], ◌∷◌}
-use Prim.Native.Nat.{ℕ, zero, suc, ◌+◌, ◌*◌, ◌/◌, ◌<◌}
+use Prim.Native.Nat.{ℕ, suc, ◌+◌, ◌*◌, ◌/◌, ◌<◌}
 use native.Mathlib.Omega.{arith}
 use lib.Dec.{eqb, ltb}
 use lib.ListN.{length, get_or, drop, length-take, length-drop}
 use borrow.Author.Tests.{eqb-true, eq-eqb, ltb-true}
-use Rattle.words.specs.Small.{any, all, counting, each}
+use Rattle.words.specs.Small.{any}
 use Rattle.words.specs.Refusals.{Refusal, ◌when◌, first_code_of}
 use Rattle.words.proofs.Bools.{any_cases, all_at, and_both, or_cases}
 use Rattle.words.proofs.First.{not_no}

@@ -3,7 +3,7 @@ use Prim.Native.Nat.{◌-◌, ◌≤◌}
 use lib.ListN.{length}
 use Rattle.words.specs.Small.{each}
 use Rattle.shelves.specs.Counts.{op_at}
-use Rattle.shelves.specs.Tallies.{raised, raised_all}
+use Rattle.shelves.specs.Tallies.{raised_all}
 use Rattle.shelves.proofs.counts.raise_ops.Given as goal
 
 -- The ops of the slots passed are raised. Assumes nothing.
