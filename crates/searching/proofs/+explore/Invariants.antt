@@ -5,7 +5,6 @@ use Rattle.machine.specs.Shown.{shown}
 use Rattle.machine.specs.Lent.{machine_of}
 use Rattle.spending.specs.Words.{spent_by}
 use Rattle.searching.proofs.Loop.{Sweeping}
-use borrow.Fn.PlainCycle.{is, and}
 use Rattle.searching.proofs.+explore.Given as goal
 
 -- The cycle of calls {explore}. The measure is the number of steps to go. The loop's invariant is `Turns` of Returns: what is told so far, what is
@@ -16,3 +15,7 @@ invariant-loop-at l =
 
 abbrev pub decreases-loop-at : goal.decreases-loop-at
 decreases-loop-at l = l.to - l.at
+
+-- The number of steps to go falls.
+abbrev pub decreases-explore : goal.decreases-explore
+decreases-explore l = l.n

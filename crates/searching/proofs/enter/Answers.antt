@@ -6,19 +6,18 @@ use Rattle.searching.proofs.enter.Goals as goal
 
 -- The step is taken, if there is one. Assumes nothing.
 pub returns-then-i-ge3200 : goal.returns-then-i-ge3200
-returns-then-i-ge3200 c k coded starts memory E = record { shows = sym (entered-none k _ _ c.if1.true); valid = E.valid }
+returns-then-i-ge3200 c k coded starts memory E = record { shows = sym (entered-none k _ _ c.if-i-ge3200.true); valid = E.valid }
 
 pub take-requires : goal.take-requires
 take-requires c =
     let p = c.requires in
     let l = c.if-i-ge3200.false in
-    record { case = p.case; coded = p.coded; accepted = accepted_at_lem p.entering l (issue_at _ _ c.if-i-ge3136.true l) }
+    record { case = p.case; coded = p.coded; accepted = accepted_at_lem p.entering l (issue_at p.entering c.if-i-ge3136.true l) }
 
 pub returns-then-i-ge3136 : goal.returns-then-i-ge3136
 returns-then-i-ge3136 c k coded starts memory E =
-    let at_if = c.before.before.before.before.before.before.before in
-    let l = at_if.before.if1.false in
-    let e = issue_at _ _ at_if.if2.true l in
+    let l = c.if-i-ge3200.false in
+    let e = issue_at E c.if-i-ge3136.true l in
     shows_at E l e (c.take.ensures k coded starts memory (accepted_at_lem E l e))
 
 pub entry_at-e-requires : goal.entry_at-e-requires
@@ -37,10 +36,6 @@ take-requires-2 c =
 
 pub returns : goal.returns
 returns c k coded starts memory E =
-    let at_source = c.before in
-    let at_entry_lem = at_source.before.before.before.before.before.before.before.before in
-    let at_action = at_entry_lem.before.before in
-    let at_if = at_action.before in
-    let l = at_if.before.if1.false in
-    let e = commit_at E at_if.if2.false at_action.action-at.result at_action.action-at.ensures at_entry_lem.entry_at.result at_entry_lem.entry_at.ensures _ _ at_source.before.wide.ensures.0 at_source.source-at.ensures in
-    shows_at E l e (c.take2.ensures k coded starts memory (accepted_at_lem E l e))
+    let l = c.if-i-ge3200.false in
+    let e = commit_at E c.if-i-ge3136.false c.action_at-k.result c.action_at-k.ensures c.entry_at-e.result c.entry_at-e.ensures _ _ c.wide.ensures.0 c.source_at.ensures in
+    shows_at E l e (c.take-2.ensures k coded starts memory (accepted_at_lem E l e))

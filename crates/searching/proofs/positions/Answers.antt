@@ -4,27 +4,26 @@ use native.Mathlib.Omega.{arith}
 use Rattle.searching.proofs.positions.Goals as goal
 
 pub returns-then-is_spent : goal.returns-then-is_spent
-returns-then-is_spent c k s ends shows = record { sure = λ _. (refl, inl (refl, sym c.before.is-spent.ensures ∙ c.if2.true)); lone = λ _. refl; rest = λ h. absurd (omega (arith, c.before.before.if1.true)) }
+returns-then-is_spent c k s ends shows = record { sure = λ _. (refl, inl (refl, sym c.is_spent.ensures ∙ c.if-is_spent.true)); lone = λ _. refl; rest = λ h. absurd (omega (arith, c.if-j-lt3200.true)) }
 
 pub returns-then-j-lt3200 : goal.returns-then-j-lt3200
-returns-then-j-lt3200 c k s ends shows = record { sure = λ _. (refl, inr refl); lone = λ _. refl; rest = λ h. absurd (omega (arith, c.before.before.if1.true)) }
+returns-then-j-lt3200 c k s ends shows = record { sure = λ _. (refl, inr refl); lone = λ _. refl; rest = λ h. absurd (omega (arith, c.if-j-lt3200.true)) }
 
 pub returns-then-k-lt48 : goal.returns-then-k-lt48
 returns-then-k-lt48 c k s ends shows =
-    let at_read = c.before in
-    let low = c.if3.true in
-    let read = at_read.Quiet-read.ensures.1 k s ends shows in
+    let low = c.if-k-lt48.true in
+    let read = c.quiet_read-quiet.ensures.1 k s ends shows in
     let found = read.found low in
     record {
-      sure = λ h. absurd (omega (arith, at_read.before.if1.false));
-      lone = λ h. absurd (omega (arith, at_read.before.if1.false));
-      rest = λ _. inl (record { read = at_read.Quiet-read.result.read; item = found.1.0; small = low; calm = found.0; seen = found.1.1; from = refl; to = refl; sources = read.seen low });
+      sure = λ h. absurd (omega (arith, c.if-j-lt3200.false));
+      lone = λ h. absurd (omega (arith, c.if-j-lt3200.false));
+      rest = λ _. inl (record { read = c.quiet_read-quiet.result.read; item = found.1.0; small = low; calm = found.0; seen = found.1.1; from = refl; to = refl; sources = read.seen low });
     }
 
 pub returns : goal.returns
 returns c k s ends shows =
     record {
-      sure = λ h. absurd (omega (arith, c.before.before.if1.false));
-      lone = λ h. absurd (omega (arith, c.before.before.if1.false));
+      sure = λ h. absurd (omega (arith, c.if-j-lt3200.false));
+      lone = λ h. absurd (omega (arith, c.if-j-lt3200.false));
       rest = λ _. inr (refl, refl, refl);
     }

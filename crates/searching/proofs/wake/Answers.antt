@@ -9,8 +9,8 @@ rest-requires c =
 
 pub returns-then-i-lt3200 : goal.returns-then-i-lt3200
 returns-then-i-lt3200 c k s starts shows fits =
-    let low = c.before.before.if1.true in
+    let low = c.if-i-lt3200.true in
     record { step = λ _. c.rest.ensures k s starts shows (fits low); none = λ h. absurd (omega (arith, low)) }
 
 pub returns-else-i-lt3200 : goal.returns-else-i-lt3200
-returns-else-i-lt3200 c k s starts shows fits = record { step = λ h. absurd (omega (arith, c.if1.false)); none = λ _. refl }
+returns-else-i-lt3200 c k s starts shows fits = record { step = λ h. absurd (omega (arith, c.if-i-lt3200.false)); none = λ _. refl }
