@@ -1,6 +1,6 @@
 -- The clauses of a list, one after the other.
 --     (no_clause, of the specs, is what stands past the end of a list)
---     none_yet, one_more       the first 0 clauses, and one more
+--     none_yet, one_more, all_of       the first 0 clauses, one more, and all
 --     named        each clause of a list whose clauses all name what there is does
 use mathlib.Core.Path.{◌≡◌, refl, sym, ap, ◌∙◌}
 use Prim.Native.Nat.{ℕ, zero, suc, ◌+◌, ◌<◌}
@@ -37,3 +37,10 @@ next (c ∷ cs) o (suc i) l = and_assoc (holds_in c o) (meets_all (take i cs) o)
 
 pub one_more : (cs : List Clause) (o : List ℕ) (i : ℕ) → i < length cs → (meets_all (take i cs) o && holds_in (get_or cs i no_clause) o) ≡ meets_all (take (i + 1) cs) o
 one_more cs o i l = next cs o i l ∙ ap (λ (k : ℕ). meets_all (take k cs) o) (sym (add-one i))
+
+take_all : (cs : List Clause) → take (length cs) cs ≡ cs
+take_all [] = refl
+take_all (c ∷ cs) = ap (λ (xs : List Clause). c ∷ xs) (take_all cs)
+
+pub all_of : (cs : List Clause) (o : List ℕ) → meets_all (take (length cs) cs) o ≡ meets_all cs o
+all_of cs o = ap (λ (xs : List Clause). meets_all xs o) (take_all cs)

@@ -4,7 +4,7 @@ use Prim.Native.Nat.{ℕ, ◌-◌, ◌/◌, ◌%◌, ◌≤◌, ◌<◌}
 use native.Mathlib.Omega.{arith}
 use lib.ListN.{get_or}
 use Rattle.cases.specs.declared.Case.{Case}
-use Rattle.rules.specs.State.{Action}
+use Rattle.rules.specs.State.{State, Action}
 use Rattle.rules.specs.Step.{Step, issue, step_of, step_code, after}
 use Rattle.rules.proofs.Accepted.{can_commit}
 use Rattle.sure.specs.Spent.{step_by}
@@ -22,13 +22,16 @@ use Rattle.searching.specs.Ready.{Entering}
 use Rattle.searching.proofs.Entered.{entered_step}
 use Rattle.searching.proofs.Lends.{acts}
 
+-- an issue
+pub issue_at : (s : State) (i : ℕ) → 3136 ≤ i → i < 3200 → step_of 0 (i - 3136) 0 0 ≡ step_by s (key_at i)
+issue_at s i h l =
+    let e : i - 3136 ≡ i % 64 = omega arith in
+    let w : 49 ≤ i / 64 = omega arith in
+    ap issue e ∙ ap (step_by s) (sym (key_issue (i / 64) (i % 64) w))
+
 module _ {c : Case} {m : Machine} {i : ℕ} (E : Entering c m i) where
-  -- an issue
-  pub issue_at : 3136 ≤ i → i < 3200 → step_of 0 (i - 3136) 0 0 ≡ step_by (shown c m) (key_at i)
-  issue_at h l =
-      let e : i - 3136 ≡ i % 64 = omega arith in
-      let w : 49 ≤ i / 64 = omega arith in
-      ap issue e ∙ ap (step_by (shown c m)) (sym (key_issue (i / 64) (i % 64) w))
+  pub issue_here : 3136 ≤ i → i < 3200 → step_of 0 (i - 3136) 0 0 ≡ step_by (shown c m) (key_at i)
+  issue_here = issue_at (shown c m) i
 
   -- a commit: its action is issued, and its processor is the entry's
   module _ (h : i < 3136) (k : ℕ) (at : k ≡ action_at i) where

@@ -1,7 +1,7 @@
 use mathlib.Core.Path.{sym}
 use native.Mathlib.Omega.{arith}
 use Rattle.searching.proofs.Entered.{entered-none}
-use Rattle.searching.proofs.Taken.{issue_at, there_at, commit_at, accepted_at_lem, shows_at}
+use Rattle.searching.proofs.Taken.{issue_here, there_at, commit_at, accepted_at_lem, shows_at}
 use Rattle.searching.proofs.enter.Goals as goal
 
 -- The step is taken, if there is one. Assumes nothing.
@@ -12,12 +12,12 @@ pub take-requires : goal.take-requires
 take-requires c =
     let p = c.requires in
     let l = c.if-i-ge3200.false in
-    record { case = p.case; coded = p.coded; accepted = accepted_at_lem p.entering l (issue_at p.entering c.if-i-ge3136.true l) }
+    record { case = p.case; coded = p.coded; accepted = accepted_at_lem p.entering l (issue_here p.entering c.if-i-ge3136.true l) }
 
 pub returns-then-i-ge3136 : goal.returns-then-i-ge3136
 returns-then-i-ge3136 c k coded starts memory E =
     let l = c.if-i-ge3200.false in
-    let e = issue_at E c.if-i-ge3136.true l in
+    let e = issue_here E c.if-i-ge3136.true l in
     shows_at E l e (c.take.ensures k coded starts memory (accepted_at_lem E l e))
 
 pub entry_at-e-requires : goal.entry_at-e-requires
