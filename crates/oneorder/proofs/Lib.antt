@@ -1,3 +1,4 @@
 pub mod Items
+pub mod Viewed
 pub mod OneOrder
 pub mod Visible

@@ -23,6 +23,7 @@ use Rattle.rules.proofs.Closed.{UpTo, Via, joined_if_keeps}
 use Rattle.rules.proofs.Accepted.{CanCommit, can_commit, neither_no}
 use Rattle.rules.proofs.Actions.{issued_new, issued_count, committed_count, committed_keeps, item_cases}
 use Rattle.oneorder.specs.OneOrder.{OneState, stands_in, limited, view, with_order, has_item, earlier_one, issued_one, committed_one, initial_one, after_one, womm_one}
+use Rattle.oneorder.proofs.Viewed.{view_path}
 use Rattle.oneorder.proofs.Items.{item_at, item_start, split, released_cases, issued_kept, joined_if_ways, joined_if_via}
 
 -- an item of an action, or an initial write
@@ -62,9 +63,6 @@ module _ (A : ℕ → Action) (l : ℕ) (R : Order) (a b : ℕ) where
   stands_down : stands_in A l a ≡ true → UpTo (limited A l R) a b → stands_in A l b ≡ true
   stands_down y (inl e) = ap (stands_in A l) (sym e) ∙ y
   stands_down y (inr h) = (limited_cases A l R a b h).1
-
-view_path : (c : Case) (s : State) (R : Order) → ((l a b : ℕ) → (ltb l c.locs && limited s.actions l R a b) ≡ s.orders l a b) → view c (with_order s R) ≡ s
-view_path c s R h = λ i. record { count = s.count; actions = s.actions; places = s.places; names = s.names; holders = s.holders; orders = λ l a b. h l a b i }
 
 -- orders that are the same are so where a test passes, and elsewhere there is none
 tested_same : (x y : Bool) (Q R : Order) (i n : ℕ) (P : ℕ → Bool) (a b : ℕ) → Q a b ≡ joined_if y R i n P a b → (x && Q a b) ≡ joined_if (x && y) (λ u v. x && R u v) i n P a b

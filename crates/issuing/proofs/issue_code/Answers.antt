@@ -22,7 +22,7 @@ returns-then-counts-p c =
 pub returns-then-issued-ge48 : goal.returns-then-issued-ge48
 returns-then-issued-ge48 c =
     let a = c.args in
-    λ k s l h q n. code_full k s a.p (get_or a.places.now a.p 0) q c.if-place.false l c.if-counts-p.false (omega (arith, h.count, c.if-issued-ge48.true))
+    λ k s l h q n. code_full k s a.p (get_or a.places.now a.p 0) q c.if-place.false l c.if-counts-p.false (omega (arith, h.count))
 
 pub returns : goal.returns
 returns c =
@@ -34,5 +34,5 @@ returns c =
     let nm : c.name_at-name.result ≡ get_or a.names.now (8 * a.p + get_or (reads i) 0 0) 0 = c.name_at-name.ensures ∙ ap (λ (n : ℕ). get_or a.names.now (8 * a.p + n) 0) r in
     λ k s l h q n.
     c.address_code.ensures
-    ∙ code_rest k s a.p at q c.if-place.false l a.names.now i (shown_value c.named-v.result) c.requires.proc n from c.if-counts-p.false (omega (arith, h.count, c.if-issued-ge48.false))
+    ∙ code_rest k s a.p at q c.if-place.false l a.names.now i (shown_value c.named-v.result) c.requires.proc n from c.if-counts-p.false (omega (arith, h.count))
     (c.named-v.ensures k s l.starts h ∙ ap (λ (x : ℕ). value_of s (name_of k x)) nm)
