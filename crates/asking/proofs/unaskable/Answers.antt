@@ -23,7 +23,7 @@ loop-i-preserved c =
     let i = c.loop-i.i in
     let f = bad_clause a.procs in
     let long : length a.asked.clauses ≡ 8 = search (long_of, rules) in
-    let inside : i < length a.asked.clauses = omega (arith, long, c.loop-i-test.true, c.if-top-gt8.false) in
+    let inside : i < length a.asked.clauses = omega (arith, long, c.loop-i-test.true) in
     let one : suc i ≡ i + 1 = omega arith in
     ((λ k. c.unnamed-b.ensures k || c.loop-i.invariant.0 k) ∙ any_more f a.asked.clauses i no_clause inside ∙ ap (λ (k : ℕ). any f (take k a.asked.clauses)) one, omega (arith, c.loop-i-test.true))
 

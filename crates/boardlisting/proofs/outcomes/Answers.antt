@@ -1,3 +1,4 @@
+use native.Mathlib.Omega.{arith}
 use Rattle.boardlisting.proofs.Refusals.{read_fit, refused_block, refused_bound, listed_case}
 use Rattle.boardlisting.proofs.outcomes.Goals as goal
 
@@ -11,7 +12,7 @@ returns-then-bound-gt48 c =
 
 pub search-requires : goal.search-requires
 search-requires c =
-    record { fit = read_fit c.args.k c.args.block.now c.read_case-read.ensures c.if-code-ne0.false; bound = c.if-bound-gt48.false }
+    record { fit = read_fit c.args.k c.args.block.now c.read_case-read.ensures c.if-code-ne0.false; bound = omega arith }
 
 pub returns : goal.returns
 returns c =

@@ -1,3 +1,4 @@
+use native.Mathlib.Omega.{arith}
 use Rattle.listing.proofs.Refusals.{read_fit, refused_block, refused_bound, listed_case}
 use Rattle.listing.proofs.outcomes.Goals as goal
 
@@ -11,7 +12,7 @@ returns-then-bound-gt96 c =
 
 pub search-requires : goal.search-requires
 search-requires c =
-    record { fit = read_fit c.args.block.now c.read_case-read.ensures c.if-code-ne0.false; bound = c.if-bound-gt96.false }
+    record { fit = read_fit c.args.block.now c.read_case-read.ensures c.if-code-ne0.false; bound = omega arith }
 
 pub returns : goal.returns
 returns c =

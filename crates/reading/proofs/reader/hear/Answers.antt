@@ -1,3 +1,4 @@
+use native.Mathlib.Omega.{arith}
 use Rattle.reading.proofs.Walking.{hear_not, hear_open, hear_all}
 use Rattle.reading.proofs.reader.hear.Goals as goal
 
@@ -14,4 +15,4 @@ returns-then-s c =
 pub returns : goal.returns
 returns c =
     let done = c.walk-w.result in
-    hear_all c.args.text.now done.line done.sheet done.ok c.accepted.result c.walk-w.ensures c.if-not-ok.false c.if-s.false c.accepted.ensures
+    hear_all c.args.text.now done.line done.sheet done.ok c.accepted.result c.walk-w.ensures c.if-not-ok.false (omega arith) c.accepted.ensures

@@ -35,6 +35,6 @@ returns c =
     let s = c.settled.result in
     let long : length r.rest ≡ 512 = search rules in
     let full = c.count_blocks-full.ensures ∙ ap (λ (l : List ℕ). counted_all r.tally (blocks_of l)) c.copy.ensures in
-    full_on r long piece c.end_of-over.result n c.end_of-over.ensures c.taken-n.ensures c.if-over-n-lt512.false s
+    full_on r long piece c.end_of-over.result n c.end_of-over.ensures c.taken-n.ensures (omega arith) s
     (subst (λ (t : Tally). Settled (counted_all t (blocks_of (drop n piece))) (drop n piece) s) full
     (subst (λ (l : List ℕ). Settled (counted_all c.count_blocks-full.result (blocks_of l)) l s) (tail_is n piece) c.settled.ensures))

@@ -1,3 +1,4 @@
+use native.Mathlib.Omega.{arith}
 use Rattle.lines.proofs.Behind.{laid_then, laid_as}
 use Rattle.shelves.proofs.Reported.{text_many, text_few}
 use Rattle.shelves.proofs.printing.report.Goals as goal
@@ -8,4 +9,4 @@ returns-then-tally-gt65535 c =
 
 pub returns : goal.returns
 returns c =
-    laid_as (text_few c.args.r c.if-tally-gt65535.false) (laid_then c.block_lines-behind_blocks.ensures c.other_lines.ensures)
+    laid_as (text_few c.args.r (omega arith)) (laid_then c.block_lines-behind_blocks.ensures c.other_lines.ensures)
