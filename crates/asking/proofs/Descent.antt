@@ -6,7 +6,7 @@ use mathlib.Core.List.{List, [], ◌∷◌, ◌++◌, append-nil, append_assoc}
 use Prim.Native.Nat.{ℕ, zero, suc, ◌+◌, ◌*◌, ◌-◌, ◌≤◌, ◌<◌}
 use native.Mathlib.Omega.{arith}
 use native.Mathlib.Decide.{dec_lt}
-use lib.ListN.{length, set, replicate, length-append, length-replicate}
+use lib.ListN.{length, take, drop, replicate, length-append, length-replicate}
 use Rattle.words.specs.Small.{concat_map}
 use Rattle.words.proofs.Lists.{concat_map-append}
 use Rattle.cases.specs.declared.Case.{Case}
@@ -38,7 +38,7 @@ use Rattle.machine.specs.Lent.{Lent, Ending}
 use Rattle.spending.specs.Words.{spent_by, key_at, opens_at}
 use Rattle.choices.specs.Choice.{NextAt}
 use Rattle.choices.specs.Given.{Scanning}
-use Rattle.asking.specs.declared.Span.{Span}
+use Rattle.std.specs.declared.ops.Range.{Range}
 use Rattle.searching.proofs.Opened.{opens_step}
 use Rattle.searching.proofs.Starts.{spent_none}
 use Rattle.asking.specs.Inner.{Standing, InReach, ReachOf, step_at, FirstInReach, row_of, rank_in, Placed, RowSpan, LowestAt}
@@ -138,19 +138,19 @@ module _ (c : Case) (W : Wish) (s : State) (n : ℕ) where
   pub passed_start : Passed 0
   passed_start u h l = absurd (omega arith)
 
-  module _ {i : ℕ} (P : Passed i) {r : Span} (R : RowSpan c s i r) (j : ℕ) (F : FirstInReach c W s n r.from r.to j) where
+  module _ {i : ℕ} (P : Passed i) {r : Range ℕ} (R : RowSpan c s i r) (j : ℕ) (F : FirstInReach c W s n r.start r.end j) where
     -- nor one of row i that is placed before j
     in_row : (u : Step) (x : Placed c s r u) → x.at < j → InReach c W (after c s u) n → ⊥
     in_row u x l held = F.skipped x.at x.from l x.opened (subst (λ (t : Step). InReach c W (after c s t) n) x.step held)
 
-    pub passed_more : r.to ≤ j → Passed (i + 1)
+    pub passed_more : r.end ≤ j → Passed (i + 1)
     passed_more end u h l held =
         elim (dec_lt (row_of u) i) [
           | yes b ↦ P u h b held
           | no b ↦ let x = R.covers u h (omega arith) in in_row u x (omega (arith, x.to)) held
         ]
 
-    pub lowest_here : s.count ≤ 48 → j < r.to → LowestAt c W s n j
+    pub lowest_here : s.count ≤ 48 → j < r.end → LowestAt c W s n j
     lowest_here few l =
         record { small = omega (arith, R.upto); fits = (F.found l).0; held = (F.found l).1; barred = λ u h b. bar u h (lower_rows c s few u (step_at s j) h (F.found l).0 b) }
       where
@@ -180,6 +180,10 @@ pub record Descending (c : Case) (W : Wish) (n : ℕ) (m : Machine) (left at : �
   pub laid : out ≡ bytes_of steps ++ replicate (384 - at) 0
   pub on : (ts : List Step) → LowestFrom (womm c) W step_bytes (shown c m) left ts → LowestFrom (womm c) W step_bytes (initial c) n (steps ++ ts)
 
+-- the same of equal numbers
+pub descending_at : {c : Case} {W : Wish} {n : ℕ} {m : Machine} {left at left' at' : ℕ} {out : List ℕ} → left ≡ left' → at ≡ at' → Descending c W n m left at out → Descending c W n m left' at' out
+descending_at {c} {W} {n} {m} {out = out} e f D = subst (λ (x : Type 0). x) (λ i. Descending c W n m (e i) (f i) out) D
+
 append_one : {A : Type 0} (l : List A) (x : A) (m : List A) → ((l ++ (x ∷ [])) ++ m) ≡ (l ++ (x ∷ m))
 append_one [] x m = refl
 append_one (y ∷ l) x m = ap (λ (l : List _). y ∷ l) (append_one l x m)
@@ -188,21 +192,20 @@ append-length : {A : Type 0} (l : List A) (x : A) → length (l ++ (x ∷ [])) �
 append-length [] x = refl
 append-length (y ∷ l) x = let e = append-length l x in omega (arith, e)
 
-set_past : (a b : List ℕ) (i v k : ℕ) → k ≡ length a + i → set (a ++ b) k v ≡ a ++ set b i v
-set_past a b i v k e = ap (λ (j : ℕ). set (a ++ b) j v) e ∙ step a
-  where
-    step : (a : List ℕ) → set (a ++ b) (length a + i) v ≡ a ++ set b i v
-    step [] = let e : 0 + i ≡ i = omega arith in ap (λ (j : ℕ). set b j v) e
-    step (x ∷ a) = let e : suc (length a) + i ≡ suc (length a + i) = omega arith in ap (λ (j : ℕ). set (x ∷ (a ++ b)) j v) e ∙ ap (λ (l : List ℕ). x ∷ l) (step a)
+taken : (a b : List ℕ) (n : ℕ) → n ≡ length a → take n (a ++ b) ≡ a
+taken [] b n e = ap (λ (k : ℕ). take k b) e
+taken (x ∷ a) b n e = ap (λ (k : ℕ). take k (x ∷ (a ++ b))) e ∙ ap (λ (l : List ℕ). x ∷ l) (taken a b (length a) refl)
 
--- four bytes over the first four of the zeros
-pub four-set : (a : List ℕ) (rest at w x y z : ℕ) → at ≡ length a
-    → set (set (set (set (a ++ replicate (suc (suc (suc (suc rest)))) 0) at w) (at + 1) x) (at + 2) y) (at + 3) z ≡ a ++ (w ∷ x ∷ y ∷ z ∷ replicate rest 0)
-four-set a rest at w x y z e =
-    ap (λ (l : List ℕ). set (set (set l (at + 1) x) (at + 2) y) (at + 3) z) (set_past a (0 ∷ 0 ∷ 0 ∷ 0 ∷ replicate rest 0) 0 w at (omega (arith, e)))
-    ∙ ap (λ (l : List ℕ). set (set l (at + 2) y) (at + 3) z) (set_past a (w ∷ 0 ∷ 0 ∷ 0 ∷ replicate rest 0) 1 x (at + 1) (omega (arith, e)))
-    ∙ ap (λ (l : List ℕ). set l (at + 3) z) (set_past a (w ∷ x ∷ 0 ∷ 0 ∷ replicate rest 0) 2 y (at + 2) (omega (arith, e)))
-    ∙ set_past a (w ∷ x ∷ y ∷ 0 ∷ replicate rest 0) 3 z (at + 3) (omega (arith, e))
+dropped : (a b : List ℕ) (n k : ℕ) → n ≡ length a + k → drop n (a ++ b) ≡ drop k b
+dropped [] b n k e = let z : n ≡ k = omega (arith, e) in ap (λ (k : ℕ). drop k b) z
+dropped (x ∷ a) b n k e = let z : n ≡ suc (length a + k) = omega (arith, e) in ap (λ (k : ℕ). drop k (x ∷ (a ++ b))) z ∙ dropped a b (length a + k) k refl
+
+-- bytes over the first four of the zeros
+pub put_over : (a bytes : List ℕ) (rest at : ℕ) → at ≡ length a → take at (a ++ replicate (suc (suc (suc (suc rest)))) 0) ++ (bytes ++ drop (at + 4) (a ++ replicate (suc (suc (suc (suc rest)))) 0)) ≡ a ++ (bytes ++ replicate rest 0)
+put_over a bytes rest at e =
+    let b : List ℕ = replicate (suc (suc (suc (suc rest)))) 0 in
+    let past : at + 4 ≡ length a + 4 = ap (λ (k : ℕ). k + 4) e in
+    λ i. taken a b at e i ++ (bytes ++ dropped a b (at + 4) 4 past i)
 
 module _ (c : Case) (W : Wish) (n : ℕ) (most : n ≤ 96) where
   pub descending_start : {m : Machine} {out : List ℕ} → shown c m ≡ initial c → Valid c m → InReach c W (initial c) n → out ≡ replicate 384 0 → Descending c W n m n 0 out
@@ -254,8 +257,8 @@ module _ (c : Case) (W : Wish) (n : ℕ) (most : n ≤ 96) where
 
     -- one step down
     pub descending_more : 0 < left → finished c (shown c m) ≡ false → (j : ℕ) → LowestAt c W (shown c m) (left - 1) j → {next : Machine} → Showing c (after c (shown c m) (step_at (shown c m) j)) next
-        → {w x y z : ℕ} → step_bytes (step_at (shown c m) j) ≡ (w ∷ x ∷ y ∷ z ∷ []) → Descending c W n next (left - 1) (at + 4) (set (set (set (set out at w) (at + 1) x) (at + 2) y) (at + 3) z)
-    descending_more l f j T {next} took {w} {x} {y} {z} written_as =
+        → (four : List ℕ) → step_bytes (step_at (shown c m) j) ≡ four → Descending c W n next (left - 1) (at + 4) (take at out ++ (four ++ drop (at + 4) out))
+    descending_more l f j T {next} took four written_as =
         let t = step_at (shown c m) j in
         let one : suc (left - 1) ≡ left = omega arith in
         record {
@@ -280,12 +283,12 @@ module _ (c : Case) (W : Wish) (n : ℕ) (most : n ≤ 96) where
         zeros : 384 - at ≡ suc (suc (suc (suc rest)))
         zeros = omega (arith, D.size, D.count)
 
-        bytes : bytes_of (D.steps ++ (step_at (shown c m) j ∷ [])) ≡ bytes_of D.steps ++ (w ∷ x ∷ y ∷ z ∷ [])
+        bytes : bytes_of (D.steps ++ (step_at (shown c m) j ∷ [])) ≡ bytes_of D.steps ++ four
         bytes = concat_map-append step_bytes D.steps (step_at (shown c m) j ∷ []) ∙ ap (λ (l : List ℕ). bytes_of D.steps ++ l) (append-nil (step_bytes (step_at (shown c m) j)) ∙ written_as)
 
-        laid : set (set (set (set out at w) (at + 1) x) (at + 2) y) (at + 3) z ≡ bytes_of (D.steps ++ (step_at (shown c m) j ∷ [])) ++ replicate rest 0
+        laid : take at out ++ (four ++ drop (at + 4) out) ≡ bytes_of (D.steps ++ (step_at (shown c m) j ∷ [])) ++ replicate rest 0
         laid =
-            ap (λ (l : List ℕ). set (set (set (set l at w) (at + 1) x) (at + 2) y) (at + 3) z) (D.laid ∙ ap (λ (k : ℕ). bytes_of D.steps ++ replicate k 0) zeros)
-            ∙ four-set (bytes_of D.steps) rest at w x y z (omega (arith, D.size, bytes_length D.steps))
-            ∙ sym (append_assoc (bytes_of D.steps) (w ∷ x ∷ y ∷ z ∷ []) (replicate rest 0))
+            ap (λ (l : List ℕ). take at l ++ (four ++ drop (at + 4) l)) (D.laid ∙ ap (λ (k : ℕ). bytes_of D.steps ++ replicate k 0) zeros)
+            ∙ put_over (bytes_of D.steps) four rest at (omega (arith, D.size, bytes_length D.steps))
+            ∙ sym (append_assoc (bytes_of D.steps) four (replicate rest 0))
             ∙ ap (λ (l : List ℕ). l ++ replicate rest 0) (sym bytes)

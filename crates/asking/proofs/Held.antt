@@ -38,12 +38,10 @@ bad_many procs a long l =
     sym (or_left (ltb 8 (length (clauses_of a))) _ (lt-ltb 8 (length (clauses_of a)) h))
 
 -- up to eight are bad if one of them is
-pub bad_some : (procs : ℕ) (a : Asked) (i : ℕ) (found : Bool) → length a.clauses ≡ 8 → a.count ≤ 8 → i ≤ a.count → a.count ≤ i → found ≡ any (bad_clause procs) (take i a.clauses) → found ≡ bad_clauses procs (clauses_of a)
+pub bad_some : (procs : ℕ) (a : Asked) (found : Bool) → length a.clauses ≡ 8 → a.count ≤ 8 → found ≡ any (bad_clause procs) (take a.count a.clauses) → found ≡ bad_clauses procs (clauses_of a)
 unfolding bad_clauses
-bad_some procs a i found long few l h e =
-    let z : i ≡ a.count = omega arith in
-    e ∙ ap (λ (k : ℕ). any (bad_clause procs) (take k a.clauses)) z
-    ∙ ap (λ (b : Bool). b || any (bad_clause procs) (take a.count a.clauses)) (sym (le-ltb 8 (length (take a.count a.clauses)) (omega (arith, few, take-length a.count a.clauses (omega (arith, few, long))))))
+bad_some procs a found long few e =
+    e ∙ ap (λ (b : Bool). b || any (bad_clause procs) (take a.count a.clauses)) (sym (le-ltb 8 (length (take a.count a.clauses)) (omega (arith, few, take-length a.count a.clauses (omega (arith, few, long))))))
     ∙ ap (bad_clauses procs) (held_clauses a few)
 
 -- clauses that are not bad can be asked
@@ -81,3 +79,18 @@ any_more f (x ∷ l) (suc i) d h = swap (f (get_or l i d)) (f x) (any f (take i 
     swap true false e = refl
     swap false true e = refl
     swap false false e = refl
+
+pub any_at : {A : Type 0} (f : A → Bool) (l : List A) (i : ℕ) (d : A) → i < length l → f (get_or l i d) ≡ true → any f l ≡ true
+any_at f [] i d h e = absurd (omega arith)
+any_at f (x ∷ l) zero d h e = or_left (f x) (any f l) e
+any_at f (x ∷ l) (suc i) d h e = ap (λ (b : Bool). f x || b) (any_at f l i d (omega arith) e) ∙ or_true (f x)
+  where
+    or_true : (b : Bool) → (b || true) ≡ true
+    or_true true = refl
+    or_true false = refl
+
+pub any_all : {A : Type 0} (f : A → Bool) (l : List A) (i : ℕ) → length l ≤ i → any f (take i l) ≡ any f l
+any_all f [] zero h = refl
+any_all f [] (suc i) h = refl
+any_all f (x ∷ l) zero h = absurd (omega arith)
+any_all f (x ∷ l) (suc i) h = ap (λ (b : Bool). f x || b) (any_all f l i (omega arith))

@@ -27,7 +27,7 @@ use Rattle.sure.proofs.Sweep.{source_there}
 use Rattle.records.proofs.Growth.{in_second}
 use Rattle.spending.specs.Words.{opens, key_in, key_at, opens_at}
 use Rattle.spending.proofs.Spends.{key_issue}
-use Rattle.asking.specs.declared.Span.{Span}
+use Rattle.std.specs.declared.ops.Range.{Range}
 use Rattle.searching.proofs.Opened.{key_read, read_open, other_open, issue_open}
 use Rattle.asking.specs.Inner.{step_at, row_of, rank_in, Placed, RowSpan}
 
@@ -83,10 +83,10 @@ module _ (c : Case) (s : State) (few : s.count ≤ 48) where
     opens_of = λ i. opens c s (word_of_lem i) (bit_of i)
 
   -- the issues
-  pub row_issues : c.procs ≤ 4 → RowSpan c s 0 (record { from = 3136; to = 3200 })
+  pub row_issues : c.procs ≤ 4 → RowSpan c s 0 (record { start = 3136; end = 3200 })
   row_issues procs = record { rising = omega arith; upto = omega arith; covers = covers; inside = inside }
     where
-      covers : (t : Step) → step_code c s t ≡ 0 → row_of t ≡ 0 → Placed c s (record { from = 3136; to = 3200 }) t
+      covers : (t : Step) → step_code c s t ≡ 0 → row_of t ≡ 0 → Placed c s (record { start = 3136; end = 3200 }) t
       covers (issue p) h e =
           let l : p < 64 = omega (arith, (can_issue c s p h).proc) in
           record { at = 64 * 49 + p; from = omega arith; to = omega arith; opened = opens_of 49 p l ∙ issue_open c s p h; step = ap (step_by s) (sym (key_of 49 p l)); order = omega arith }
@@ -111,15 +111,15 @@ module _ (c : Case) (s : State) (few : s.count ≤ 48) where
         (f, (λ i. commit (x i) (y i) f), subst (λ (i : ℕ). i < s.count) y T.there, ap (λ (i : ℕ). (s.actions i).proc) (sym y) ∙ waits_proc q (s.actions j) T.waits ∙ x)
 
     -- there is none
-    pub row_none : (k < s.count → (s.actions k).proc ≡ p → ⊥) → RowSpan c s (suc (48 * p + k)) (record { from = 0; to = 0 })
+    pub row_none : (k < s.count → (s.actions k).proc ≡ p → ⊥) → RowSpan c s (suc (48 * p + k)) (record { start = 0; end = 0 })
     row_none away = record { rising = omega arith; upto = omega arith; covers = λ t h e. let w = in_row t h e in absurd (away w.2 w.3); inside = λ j a b. absurd (omega arith) }
 
     module _ (own : (s.actions k).proc ≡ p) where
       -- the sources of a read
-      pub row_read : Reachable (womm c) s → reading (kind_of (s.actions k)) ≡ true → RowSpan c s (suc (48 * p + k)) (record { from = 64 * k; to = 64 * k + 64 })
+      pub row_read : Reachable (womm c) s → reading (kind_of (s.actions k)) ≡ true → RowSpan c s (suc (48 * p + k)) (record { start = 64 * k; end = 64 * k + 64 })
       row_read K r = record { rising = omega arith; upto = omega arith; covers = covers; inside = inside }
         where
-          covers : (t : Step) → step_code c s t ≡ 0 → row_of t ≡ suc (48 * p + k) → Placed c s (record { from = 64 * k; to = 64 * k + 64 }) t
+          covers : (t : Step) → step_code c s t ≡ 0 → row_of t ≡ suc (48 * p + k) → Placed c s (record { start = 64 * k; end = 64 * k + 64 }) t
           covers t h q =
               let w = in_row t h q in
               let e = w.0 in
@@ -143,10 +143,10 @@ module _ (c : Case) (s : State) (few : s.count ≤ 48) where
               (ap (λ (x : Key). row_of (step_by s x)) q ∙ ap (λ (i : ℕ). suc (48 * i + k)) own, subst (λ (x : Key). j ≡ 64 * k + rank_in (step_by s x)) (sym q) (omega arith))
 
       -- another action
-      pub row_other : reading (kind_of (s.actions k)) ≡ false → RowSpan c s (suc (48 * p + k)) (record { from = 3072 + k; to = 3073 + k })
+      pub row_other : reading (kind_of (s.actions k)) ≡ false → RowSpan c s (suc (48 * p + k)) (record { start = 3072 + k; end = 3073 + k })
       row_other r = record { rising = omega arith; upto = omega arith; covers = covers; inside = inside }
         where
-          covers : (t : Step) → step_code c s t ≡ 0 → row_of t ≡ suc (48 * p + k) → Placed c s (record { from = 3072 + k; to = 3073 + k }) t
+          covers : (t : Step) → step_code c s t ≡ 0 → row_of t ≡ suc (48 * p + k) → Placed c s (record { start = 3072 + k; end = 3073 + k }) t
           covers t h q =
               let w = in_row t h q in
               let e = w.0 in

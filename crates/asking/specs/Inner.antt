@@ -1,5 +1,5 @@
 -- What the parts of the search for the lowest schedule are given and answer. Assumes nothing.
-use Rattle.std.specs.Prelude.{◌≡◌, ◌↔◌, Bool, true, false, List, ◌++◌, ℕ, suc, ◌+◌, ◌*◌, ◌-◌, ◌≤◌, ◌<◌, length, replicate}
+use Rattle.std.specs.Prelude.{◌≡◌, Option, Some, None, ◌↔◌, Bool, true, false, List, ◌++◌, ℕ, suc, ◌+◌, ◌*◌, ◌-◌, ◌≤◌, ◌<◌, length, replicate}
 use Rattle.words.specs.Small.{concat_map}
 use Rattle.cases.specs.declared.Case.{Case}
 use Rattle.clauses.specs.declared.Asked.{Asked}
@@ -21,7 +21,7 @@ use Rattle.machine.specs.Shown.{shown}
 use Rattle.machine.specs.Valid.{Valid}
 use Rattle.machine.specs.Lent.{Program}
 use Rattle.spending.specs.Words.{key_at, opens_at}
-use Rattle.asking.specs.declared.Span.{Span}
+use Rattle.std.specs.declared.ops.Range.{Range}
 use Rattle.asking.specs.declared.Reach.{Reach}
 
 -- The program of a case, a machine that is reached, with at most 96 steps to go, and clauses that can be asked.
@@ -94,6 +94,11 @@ pub record FirstInReach (c : Case) (W : Wish) (s : State) (n from to j : ℕ) : 
   pub skipped : (i : ℕ) → from ≤ i → i < j → opens_at c s i ≡ true → InReach c W (after c s (step_at s i)) n → ⊥
   pub found : j < to → (step_code c s (step_at s j) ≡ 0) × InReach c W (after c s (step_at s j)) n
 
+-- That position where there is one.
+abbrev pub FirstIn : Case → Wish → State → ℕ → ℕ → ℕ → Option ℕ → Type 0
+FirstIn c W s n from to (Some j) = FirstInReach c W s n from to j × (j < to)
+FirstIn c W s n from to None = FirstInReach c W s n from to to
+
 -- Steps in rows: all issues, then the commits of each processor and action; within a row by processor or by source.
 abbrev pub row_of : Step → ℕ
 row_of (issue p) = 0
@@ -106,20 +111,20 @@ rank_in (commit p k e) = e
 rank_in neither = 0
 
 -- The position of a step of row i.
-pub record Placed (c : Case) (s : State) (r : Span) (t : Step) : Type 0 where
+pub record Placed (c : Case) (s : State) (r : Range ℕ) (t : Step) : Type 0 where
   pub at : ℕ
-  pub from : r.from ≤ at
-  pub to : at < r.to
+  pub from : r.start ≤ at
+  pub to : at < r.end
   pub opened : opens_at c s at ≡ true
   pub step : t ≡ step_at s at
-  pub order : at ≡ r.from + rank_in t
+  pub order : at ≡ r.start + rank_in t
 
 -- The positions of row i, in order.
-pub record RowSpan (c : Case) (s : State) (i : ℕ) (r : Span) : Type 0 where
-  pub rising : r.from ≤ r.to
-  pub upto : r.to ≤ 3200
+pub record RowSpan (c : Case) (s : State) (i : ℕ) (r : Range ℕ) : Type 0 where
+  pub rising : r.start ≤ r.end
+  pub upto : r.end ≤ 3200
   pub covers : (t : Step) → step_code c s t ≡ 0 → row_of t ≡ i → Placed c s r t
-  pub inside : (j : ℕ) → r.from ≤ j → j < r.to → (row_of (step_at s j) ≡ i) × (j ≡ r.from + rank_in (step_at s j))
+  pub inside : (j : ℕ) → r.start ≤ j → j < r.end → (row_of (step_at s j) ≡ i) × (j ≡ r.start + rank_in (step_at s j))
 
 -- The step to take: accepted, one is within n steps after it, and within n steps after none that is lower.
 pub record LowestAt (c : Case) (W : Wish) (s : State) (n j : ℕ) : Type 0 where

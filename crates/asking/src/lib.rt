@@ -1,7 +1,7 @@
 // Asks whether an outcome that meets some clauses is possible within a bound, and by which schedule.
 #![tactic(auto)]
 
-ghost use Rattle.std.specs.Prelude.{◌≡◌, true, false, [], ◌∷◌, ◌+◌, ◌-◌, ◌≤◌, ◌<◌, length, set};
+ghost use Rattle.std.specs.Prelude.{◌≡◌, true, false, ◌+◌, ◌-◌, ◌≤◌, ◌<◌, length, take, drop, ◌++◌};
 ghost use Rattle.clauses.specs.Wanted.{wanted, clauses_of};
 ghost use Rattle.runs.specs.Asking.{Laid, IsAnswer, Refused};
 ghost use Rattle.rules.specs.Step.{after};
@@ -11,34 +11,28 @@ ghost use Rattle.rules.specs.Bytes.{step_bytes};
 ghost use Rattle.machine.specs.Shown.{shown};
 ghost use Rattle.machine.specs.Given.{Showing};
 ghost use Rattle.asking.specs.Asked.{answer_of, bad_clause, bad_clauses, IsAsked};
-ghost use Rattle.asking.specs.Inner.{Standing, Looking, Leading, Rowed, Fitting, Going, Wanting, ReachOf, step_at, FirstInReach, RowSpan, LowestAt, Settling};
+ghost use Rattle.asking.specs.Inner.{Standing, Looking, Leading, Rowed, Fitting, Going, Wanting, ReachOf, step_at, FirstIn, RowSpan, LowestAt, Settling};
 
 use cases::Case;
 use clauses::{Asked, Clause};
 use machine::Machine;
 use searching::Tally;
+use std::ops::Range;
 
-// Whether an outcome is within reach, and, if none is, whether a run was cut.
+// Whether an outcome is within reach, and, if none is, whether a run was cut: `ReachOf` speaks of both marks.
 #[derive(Clone, Copy)]
 pub struct Reach {
     pub found: bool,
     pub cut: bool,
 }
 
-// The positions from, from + 1, .., to - 1.
+// What is asked of a case: the case with its program, whether every label of it lies past its own instruction, and the clauses.
 #[derive(Clone, Copy)]
-pub struct Span {
-    pub from: usize,
-    pub to: usize,
-}
-
-// The four bytes of a step.
-#[derive(Clone, Copy)]
-pub struct Bytes {
-    pub kind: u8,
-    pub proc: u8,
-    pub action: u8,
-    pub source: u8,
+pub struct Question {
+    pub case: Case,
+    pub program: [u64; 48],
+    pub ahead: bool,
+    pub asked: Asked,
 }
 
 // What asking answers: the code, yes or no, the schedule's length in bytes, the cut mark, and the position that a block's code carries, 0 with any other.
@@ -51,245 +45,151 @@ pub struct Answer {
     pub position: usize,
 }
 
-// Whether an outcome of m within n steps meets the clauses: a list of those that do, with no room for one.
-fn within_reach(
-    c: Case,
-    program: &[u64; 48],
-    m: Machine,
-    n: usize,
-    ahead: bool,
-    asked: Asked,
-) -> Reach
-    requires { Standing c program.now m n ahead asked }
-    ensures { ReachOf c (wanted asked) (shown c m) n result }
-{
-    let mut none = [0u8; 1];
-    let empty = Tally {
-        count: 0,
-        cut: false,
-        full: false,
-    };
-    let fresh = [0u64; 50];
-    let tally = searching::explore(
-        c, program, &m.places, &m.names, &m.holders, &m.acts, &m.rows, &m.sets, m.issued, 3200, n,
-        ahead, asked, &fresh, &mut none, empty,
-    );
-    Reach {
-        found: tally.full,
-        cut: tally.cut,
-    }
-}
-
-// The machine after the step at position j, which is accepted.
-fn after_step(c: Case, program: &[u64; 48], m: Machine, j: usize) -> Machine
-    requires { Going c program.now m j }
-    ensures { Showing c (after c (shown c m) (step_at (shown c m) j)) result }
-{
-    let mut places = m.places;
-    let mut names = m.names;
-    let mut holders = m.holders;
-    let mut acts = m.acts;
-    let mut rows = m.rows;
-    let mut sets = m.sets;
-    let issued = searching::enter(
-        program,
-        &c.masks,
-        &c.presets,
-        &c.memory,
-        &mut places,
-        &mut names,
-        &mut holders,
-        &mut acts,
-        &mut rows,
-        &mut sets,
-        m.issued,
-        j,
-    );
-    Machine {
-        issued,
-        places,
-        names,
-        holders,
-        acts,
-        rows,
-        sets,
-    }
-}
-
-// The first position from `from` on after whose step an outcome is within reach, else `to`.
-fn first_in_reach(
-    c: Case,
-    program: &[u64; 48],
-    m: Machine,
-    n: usize,
-    ahead: bool,
-    asked: Asked,
-    from: usize,
-    to: usize,
-) -> usize
-    requires { Looking c program.now m n ahead asked from to }
-    ensures { FirstInReach c (wanted asked) (shown c m) (n - 1) from to result }
-{
-    let none = [0u64; 50];
-    let mut at = from;
-    while at < to {
-        let j = choices::next_step(
-            program, &c.counts, &c.masks, &c.presets, &c.memory, &m.places, &m.names, &m.holders,
-            &m.acts, &m.rows, &m.sets, c.procs, c.locs, m.issued, &none, at, to,
+impl Question {
+    // Whether an outcome of m within n steps meets the clauses: a list of those that do, with no room for one.
+    fn within_reach(&self, m: &Machine, n: usize) -> Reach
+        requires { Standing self.now.case self.now.program m.now n self.now.ahead self.now.asked }
+        ensures { ReachOf self.now.case (wanted self.now.asked) (shown self.now.case m.now) n result }
+    {
+        let tally = searching::explore(
+            &self.case,
+            &self.program,
+            m,
+            3200,
+            n,
+            self.ahead,
+            self.asked,
+            &[0; 50],
+            &mut [0; 1],
+            Tally::default(),
         );
-        if j < to {
-            let r = within_reach(
-                c,
-                program,
-                after_step(c, program, m, j),
-                n - 1,
-                ahead,
-                asked,
-            );
-            if r.found {
+        Reach {
+            found: tally.full,
+            cut: tally.cut,
+        }
+    }
+
+    // The machine after the step at position j, which is accepted.
+    fn after_step(&self, m: &Machine, j: usize) -> Machine
+        requires { Going self.now.case self.now.program m.now j }
+        ensures { Showing self.now.case (after self.now.case (shown self.now.case m.now) (step_at (shown self.now.case m.now) j)) result }
+    {
+        let mut next = *m;
+        searching::enter(&self.case, &self.program, &mut next, j);
+        next
+    }
+
+    // The first position of a span after whose step an outcome is within reach.
+    fn first_in_reach(&self, m: &Machine, n: usize, span: Range<usize>) -> Option<usize>
+        requires { Looking self.now.case self.now.program m.now n self.now.ahead self.now.asked span.start span.end }
+        ensures { FirstIn self.now.case (wanted self.now.asked) (shown self.now.case m.now) (n - 1) span.start span.end result }
+    {
+        // No `for`: a turn goes on behind the position that was found.
+        let mut at = span.start;
+        while at < span.end {
+            let j = choices::next_step(&self.case, &self.program, m, &[0; 50], at, span.end);
+            if j < span.end && self.within_reach(&self.after_step(m, j), n - 1).found {
+                return Some(j);
+            }
+            at = j + 1;
+        }
+        None
+    }
+
+    // The position of the lowest step after which an outcome is within reach.
+    fn lowest_step(&self, m: &Machine, n: usize) -> usize
+        requires { Leading self.now.case self.now.program m.now n self.now.ahead self.now.asked }
+        ensures { LowestAt self.now.case (wanted self.now.asked) (shown self.now.case m.now) (n - 1) result }
+    {
+        for i in 0..193 {
+            if let Some(j) = self.first_in_reach(m, n, row_span(&self.case, m, i)) {
                 return j;
             }
         }
-        at = j + 1;
+        // Not reached: `Leading` says that some row holds one. An Option would have the caller take a None apart that cannot come.
+        3200
     }
-    to
+
+    // Lays the lowest schedule to an outcome into a cleared buffer and gives its length.
+    fn lowest(&self, n: usize, out: &mut [u8]) -> usize
+        requires { Wanting self.now.case self.now.program n self.now.ahead self.now.asked out.old }
+        ensures { Laid (womm self.now.case) (wanted self.now.asked) step_bytes n 384 result out.new }
+    {
+        let mut m = machine::start(&self.case);
+        for k in 0..n {
+            if machine::finished(&self.case, &m) {
+                return 4 * k;
+            }
+            let j = self.lowest_step(&m, n - k);
+            put_step(out, 4 * k, bytes_at(&self.case, &m, j));
+            m = self.after_step(&m, j);
+        }
+        4 * n
+    }
 }
 
 // The positions of row i: the issues, or the commits of one processor and action.
-fn row_span(c: Case, m: Machine, i: usize) -> Span
-    requires { Rowed c m i }
-    ensures { RowSpan c (shown c m) i result }
+fn row_span(case: &Case, m: &Machine, i: usize) -> Range<usize>
+    requires { Rowed case.now m.now i }
+    ensures { RowSpan case.now (shown case.now m.now) i result }
 {
     if i == 0 {
-        return Span {
-            from: 3136,
-            to: 3200,
-        };
+        return 3136..3200;
     }
     let p = (i - 1) / 48;
     let k = (i - 1) % 48;
     if m.issued <= k {
-        return Span { from: 0, to: 0 };
+        return 0..0;
     }
     let e = machine::entry_at(&m.acts, k);
     if words::wide(e.proc) != p {
-        return Span { from: 0, to: 0 };
+        return 0..0;
     }
-    let x = e.instr;
-    if rules::kind_of(x) == 1 {
-        return Span {
-            from: 64 * k,
-            to: 64 * k + 64,
-        };
+    if rules::kind_of(e.instr) == 1 {
+        return 64 * k..64 * k + 64;
     }
-    Span {
-        from: 3072 + k,
-        to: 3073 + k,
-    }
-}
-
-// The position of the lowest step after which an outcome is within reach.
-fn lowest_step(
-    c: Case,
-    program: &[u64; 48],
-    m: Machine,
-    n: usize,
-    ahead: bool,
-    asked: Asked,
-) -> usize
-    requires { Leading c program.now m n ahead asked }
-    ensures { LowestAt c (wanted asked) (shown c m) (n - 1) result }
-{
-    let mut i: usize = 0;
-    while i < 193 {
-        let span = row_span(c, m, i);
-        let to = span.to;
-        let j = first_in_reach(c, program, m, n, ahead, asked, span.from, to);
-        if j < to {
-            return j;
-        }
-        i += 1;
-    }
-    3200
+    3072 + k..3073 + k
 }
 
 // The bytes of the step at position j.
-fn bytes_at(c: Case, m: Machine, j: usize) -> Bytes
-    requires { Fitting c m j }
-    ensures { step_bytes (step_at (shown c m) j) ≡ (result.kind ∷ result.proc ∷ result.action ∷ result.source ∷ []) }
+fn bytes_at(case: &Case, m: &Machine, j: usize) -> [u8; 4]
+    requires { Fitting case.now m.now j }
+    ensures { step_bytes (step_at (shown case.now m.now) j) ≡ result }
 {
     if 49 <= j / 64 {
-        return Bytes {
-            kind: 0,
-            proc: (j % 64) as u8,
-            action: 0,
-            source: 0,
-        };
+        return [0, (j % 64) as u8, 0, 0];
     }
     let k = spending::action_at(j);
     let e = machine::entry_at(&m.acts, k);
-    Bytes {
-        kind: 1,
-        proc: e.proc,
-        action: k as u8,
-        source: choices::source_at(j) as u8,
-    }
+    [1, e.proc, k as u8, choices::source_at(j) as u8]
 }
 
 // Puts the bytes of a step in at a place.
-fn put_step(out: &mut [u8], at: usize, t: Bytes)
+fn put_step(out: &mut [u8], at: usize, bytes: [u8; 4])
     requires { at + 4 ≤ length out.old }
-    ensures { out.new ≡ set (set (set (set out.old at t.kind) (at + 1) t.proc) (at + 2) t.action) (at + 3) t.source }
+    ensures { out.new ≡ take at out.old ++ (bytes ++ drop (at + 4) out.old) }
 {
-    out[at] = t.kind;
-    out[at + 1] = t.proc;
-    out[at + 2] = t.action;
-    out[at + 3] = t.source;
-}
-
-// Lays the lowest schedule to an outcome into a cleared buffer and gives its length.
-fn lowest<'a, 'b>(
-    c: Case,
-    program: &'a [u64; 48],
-    n: usize,
-    ahead: bool,
-    asked: Asked,
-    out: &'b mut [u8],
-) -> usize
-    requires { Wanting c program.now n ahead asked out.old }
-    ensures { Laid (womm c) (wanted asked) step_bytes n 384 result out.new }
-{
-    let mut m = machine::start(c);
-    let mut left = n;
-    let mut at: usize = 0;
-    while left > 0 {
-        let done = machine::finished(&c.counts, &m.places, &m.sets, c.procs);
-        if done {
-            return at;
-        }
-        let j = lowest_step(c, program, m, left, ahead, asked);
-        put_step(out, at, bytes_at(c, m, j));
-        m = after_step(c, program, m, j);
-        left -= 1;
-        at += 4;
-    }
-    at
+    out[at..at + 4].copy_from_slice(&bytes);
 }
 
 // Answers for a case, within n steps.
-pub fn settle(c: Case, n: usize, asked: Asked, out: &mut [u8]) -> Answer
-    requires { Settling c n asked out.old }
-    ensures { IsAnswer (womm c) (wanted asked) step_bytes n 384 (answer_of result) out.new × (result.position ≡ 0) }
+pub fn settle(case: &Case, n: usize, asked: Asked, out: &mut [u8]) -> Answer
+    requires { Settling case.now n asked out.old }
+    ensures { IsAnswer (womm case.now) (wanted asked) step_bytes n 384 (answer_of result) out.new × (result.position ≡ 0) }
 {
     records::clear(out);
-    let ahead = choices::forward(c);
-    let program = machine::program(c);
-    let r = within_reach(c, &program, machine::start(c), n, ahead, asked);
-    if r.found {
+    let question = Question {
+        case: *case,
+        program: machine::program(case),
+        ahead: choices::forward(case),
+        asked,
+    };
+    let reach = question.within_reach(&machine::start(case), n);
+    if reach.found {
         return Answer {
             code: 0,
             yes: true,
-            length: lowest(c, &program, n, ahead, asked, out),
+            length: question.lowest(n, out),
             cut: false,
             position: 0,
         };
@@ -298,7 +198,7 @@ pub fn settle(c: Case, n: usize, asked: Asked, out: &mut [u8]) -> Answer
         code: 0,
         yes: false,
         length: 0,
-        cut: r.cut,
+        cut: reach.cut,
         position: 0,
     }
 }
@@ -314,19 +214,15 @@ fn unnamed(k: Clause, procs: u8) -> bool
 fn unaskable(asked: Asked, procs: u8) -> bool
     ensures { result ≡ bad_clauses procs (clauses_of asked) }
 {
-    let top = asked.count;
-    if 8 < top {
+    if 8 < asked.count {
         return true;
     }
-    let mut found = false;
-    let mut i: usize = 0;
-    while i < top {
-        let k = asked.clauses[i];
-        let b = unnamed(k, procs);
-        found = b | found;
-        i += 1;
+    for k in &asked.clauses[..asked.count] {
+        if unnamed(*k, procs) {
+            return true;
+        }
     }
-    found
+    false
 }
 
 // Refuses with a code and its position: no, length 0, cut no, and the buffer is all zeros.
@@ -348,19 +244,17 @@ pub fn ask(block: &[u8], bound: u32, asked: Asked, out: &mut [u8]) -> Answer
     ensures { IsAsked block.now bound (clauses_of asked) (length out.old) (answer_of result) result.position out.new }
 {
     let read = cases::read_case(block);
-    let code = read.code;
-    if code != 0 {
-        return refuse(code, read.position, out);
+    if read.code != 0 {
+        return refuse(read.code, read.position, out);
     }
     if bound > 96 {
         return refuse(10, 0, out);
     }
-    let case = read.case;
-    if unaskable(asked, case.procs) {
+    if unaskable(asked, read.case.procs) {
         return refuse(12, 0, out);
     }
     if out.len() != 384 {
         return refuse(13, 0, out);
     }
-    settle(case, bound as usize, asked, out)
+    settle(&read.case, bound as usize, asked, out)
 }

@@ -1,12 +1,10 @@
 // Reads the blocks that its arguments name. Of each it prints the code and its position, or for code 0 whether writing the case gives the same bytes again.
 #![tactic(auto)]
 
-ghost use Rattle.std.specs.Prelude.{◌≤◌, length};
-
-use cases::Case;
+use cases::{Case, CaseRead};
+use inputs::read_full;
 use std::env::{Env, FillError};
 use std::fs::File;
-use std::io::Read;
 use std::{io, str};
 
 // Whether writing the case gives the block again.
@@ -16,44 +14,25 @@ fn kept(case: Case, block: &[u8]) -> bool {
     &again[..] == block
 }
 
-// What follows code 0.
-fn print_kept(rt: &HostRuntime, same: bool) -> io::Result<()> {
-    if same {
-        print!(rt; ", written again the same")
-    } else {
-        print!(rt; ", written again another")
-    }
-}
-
+// The line of a block.
 fn report(rt: &HostRuntime, name: &str, block: &[u8]) -> io::Result<()> {
-    let read = cases::read_case(block);
-    let code = read.code;
-    print!(rt; "{name} code {code}")?;
+    let CaseRead {
+        code,
+        position,
+        usual,
+        case,
+    } = cases::read_case(block);
     if code == 0 {
-        if read.usual {
-            print!(rt; ", usual bound dropped")?;
-        }
-        let case = read.case;
-        print_kept(rt, kept(case, block))?;
+        let dropped = if usual { ", usual bound dropped" } else { "" };
+        let again = if kept(case, block) {
+            "the same"
+        } else {
+            "another"
+        };
+        println!(rt; "{name} code 0{dropped}, written again {again}")
     } else {
-        let position = read.position;
-        print!(rt; " at {position}")?;
+        println!(rt; "{name} code {code} at {position}")
     }
-    println!(rt; "")
-}
-
-// Reads until the bytes are full, the file ends or a read fails. The number of bytes that were read.
-fn read_full(file: &mut File, bytes: &mut [u8]) -> usize
-    ensures { result ≤ length bytes.new }
-{
-    let mut done = 0;
-    while done < bytes.len() {
-        match file.read(&mut bytes[done..]) {
-            Ok(n) if n > 0 => done += n,
-            _ => break,
-        }
-    }
-    done
 }
 
 // A file longer than the buffer is cut to it, and is longer than a block all the same.

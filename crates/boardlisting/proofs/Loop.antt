@@ -136,9 +136,6 @@ module _ (k : Buffering) (c : Case) (b : Board) (n : ℕ) where
     pub known : Known k c b (suc n) done (Tells bytes sum)
 
   module _ {before : List ℕ} {y : Tally} (from : ℕ) where
-    pub sweep_start : {spent : ℕ} → y.full ≡ false → Held before y.count → Known k c b (suc n) spent (Tells before y) → Sweeping before y from from spent before y
-    sweep_start r h K = record { room = r; held = h; size = refl; late = omega arith; told = λ q. (inl, ⊎_elim (λ w. w) (λ P. absurd (omega (arith, P.late, P.soon)))); known = K }
-
     module _ {at done : ℕ} {bytes : List ℕ} {sum : Tally} (S : Sweeping before y from at done bytes sum) where
       wider : (q : Question) → Past from at q → Past from (at + 1) q
       wider q P = record { place = P.place; late = P.late; soon = omega (arith, P.soon); taken = P.taken; yes = P.yes }

@@ -2,6 +2,12 @@
 use mathlib.Core.Path.{◌≡◌, refl, sym, ◌∙◌, ap, subst}
 use mathlib.Core.Bool.{Bool, true, false, ◌&&◌, ◌||◌, not, cond, false≢true}
 use mathlib.Core.Option.{none, some}
+use mathlib.Core.Option as Math
+use Rattle.std.specs.Prelude.{Option, Some, None, IfSome, is_some, unwrap_or}
+use Rattle.cases.specs.declared.Instr.{Instr}
+use Rattle.std.specs.Bool.{then_some}
+use Rattle.cases.specs.declared.Instr.TheVariants.{Empty, Read, Write, Local, Branch, Goto, Acquire, Release}
+use Rattle.boards.specs.Run.{instruction}
 use Prim.Native.Nat.{ℕ, suc, ◌+◌, ◌*◌, ◌-◌, ◌/◌, ◌%◌, ◌≤◌, ◌<◌}
 use native.Mathlib.Omega.{arith}
 use lib.Dec.{eqb, ltb}
@@ -52,16 +58,6 @@ one_position i j e = step (ltb i 4) (ltb j 4) refl refl e
     step false false f g h = omega (arith, ltb-false i 4 f, ltb-false j 4 g, ap who h, ap buffer h)
 
 -- by what they touch
-touch_alike : (t u : Bool) (a b : ℕ) → ((t && u) && eqb b a) ≡ alike (option_of t a) (option_of u b)
-touch_alike true true a b = refl
-touch_alike true false a b = refl
-touch_alike false u a b = refl
-
-pub apart-two : (m z : Touch) → eqb m.proc z.proc ≡ false → (not ((m.touching && z.touching) && eqb z.at m.at) || (m.looks && z.looks)) ≡ apart_by m z
-apart-two m z e =
-    ap (λ (x : Bool). not x || (m.looks && z.looks)) (touch_alike m.touching z.touching m.at z.at)
-    ∙ sym (cond-false (eqb m.proc z.proc) _ _ e)
-
 pub apart_is : {k : Buffering} {c : Case} {b : Board} {m z : Move} {t u : Touch} → Touched k c b m t → Touched k c b z u → apart_by t u ≡ apart k c b m z
 unfolding apart
 apart_is T U = λ i.
@@ -100,31 +96,55 @@ module _ (k : Buffering) (c : Case) (b : Board) (n : ℕ) where
               (crossing-sure k c b sure (S.found (ltb-true sure 4 f)) (move_at j) (λ g. differ j (H.had j e) (is ∙ g)) (K.taken j (H.had j e)))
           by_sure false f lo hi = crossing k c b P (move_at i) (move_at j) (differ j (H.had j e)) (H.far j e (ltb-false sure 4 f)) allows (K.taken j (H.had j e))
 
+-- a read looks, and no other
+module _ (k : Buffering) (c : Case) (b : Board) (p : ℕ) where
+  pub looks_read : {a d : ℕ} → instruction k c b p ≡ Read a d → true ≡ looks k c b (run p)
+  unfolding looks
+  looks_read e = rw e
+
+  pub looks-other : (i : Instr) → i ≡ instruction k c b p → ((a d : ℕ) → i ≡ Read a d → ⊥) → false ≡ looks k c b (run p)
+  unfolding looks
+  looks-other Empty e n = rw (sym e)
+  looks-other (Read a d) e n = absurd (n a d refl)
+  looks-other (Write a d) e n = rw (sym e)
+  looks-other (Local a d) e n = rw (sym e)
+  looks-other (Branch a d) e n = rw (sym e)
+  looks-other (Goto d) e n = rw (sym e)
+  looks-other (Acquire a) e n = rw (sym e)
+  looks-other (Release a) e n = rw (sym e)
+
+pub as_option : (t : Bool) (x : ℕ) → option_of (is_some (then_some t x)) (unwrap_or (then_some t x) 0) ≡ option_of t x
+as_option true x = refl
+as_option false x = refl
+
 -- what the move at a position touches
 module _ (k : Buffering) (c : Case) (b : Board) (i : ℕ) where
-  run_touched : (g : Next) → Glanced k c b i g → Touched k c b (run i) (record { proc = i; touching = not g.quiet; at = g.at; looks = eqb g.kind 1; light = eqb g.kind 1 })
+  abbrev at_of : Option ℕ → Math.Option ℕ
+  at_of o = option_of (is_some o) (unwrap_or o 0)
+
+  run_touched : (g : Next) (o : Option ℕ) (r : Bool) → Glanced k c b i g → at_of o ≡ option_of (not g.quiet) g.at → r ≡ looks k c b (run i) → Touched k c b (run i) (record { proc = i; at = o; looks = r; light = r })
   unfolding touches looks light
-  run_touched g G =
+  run_touched g o r G e l =
       record {
         proc = refl;
-        there = (λ j. option_of (not (G.quiet j)) (G.at j)) ∙ by_quiet (quiet k c b i) (operand k c b i 0);
-        looks = ap (λ (n : ℕ). eqb n 1) G.kind;
-        light = ap (λ (n : ℕ). eqb n 1) G.kind;
+        there = e ∙ (λ j. option_of (not (G.quiet j)) (G.at j)) ∙ by_quiet (quiet k c b i) (operand k c b i 0);
+        looks = l;
+        light = l;
       }
     where
       by_quiet : (x : Bool) (l : ℕ) → option_of (not x) l ≡ cond x none (some l)
       by_quiet true l = refl
       by_quiet false l = refl
 
-  pub touched_run : (g : Next) → i < 4 → Glanced k c b i g → Touched k c b (move_at i) (record { proc = i; touching = not g.quiet; at = g.at; looks = eqb g.kind 1; light = eqb g.kind 1 })
-  touched_run g low G = subst (λ (m : Move). Touched k c b m (record { proc = i; touching = not g.quiet; at = g.at; looks = eqb g.kind 1; light = eqb g.kind 1 })) (sym (cond-true _ _ _ (lt-ltb i 4 low))) (run_touched g G)
+  pub touched_run : (g : Next) (o : Option ℕ) (r : Bool) → i < 4 → Glanced k c b i g → at_of o ≡ option_of (not g.quiet) g.at → r ≡ looks k c b (run i) → Touched k c b (move_at i) (record { proc = i; at = o; looks = r; light = r })
+  touched_run g o r low G e l = subst (λ (m : Move). Touched k c b m (record { proc = i; at = o; looks = r; light = r })) (sym (cond-true _ _ _ (lt-ltb i 4 low))) (run_touched g o r G e l)
 
-  drain_touched : (p n l : ℕ) → oldest_at (b.buffers p n) ≡ some l → Touched k c b (drain p n) (record { proc = p; touching = true; at = l; looks = false; light = true })
+  drain_touched : (p n : ℕ) (o : Option ℕ) → at_of o ≡ oldest_at (b.buffers p n) → Touched k c b (drain p n) (record { proc = p; at = o; looks = false; light = true })
   unfolding touches looks light
-  drain_touched p n l e = record { proc = refl; there = sym e; looks = refl; light = refl }
+  drain_touched p n o e = record { proc = refl; there = e; looks = refl; light = refl }
 
-  pub touched_drain : (l : ℕ) → 4 ≤ i → oldest_at (b.buffers ((i - 4) / 8) ((i - 4) % 8)) ≡ some l → Touched k c b (move_at i) (record { proc = (i - 4) / 8; touching = true; at = l; looks = false; light = true })
-  touched_drain l high e = subst (λ (m : Move). Touched k c b m (record { proc = (i - 4) / 8; touching = true; at = l; looks = false; light = true })) (sym (cond-false _ _ _ (le-ltb i 4 high))) (drain_touched ((i - 4) / 8) ((i - 4) % 8) l e)
+  pub touched_drain : (o : Option ℕ) → 4 ≤ i → at_of o ≡ oldest_at (b.buffers ((i - 4) / 8) ((i - 4) % 8)) → Touched k c b (move_at i) (record { proc = (i - 4) / 8; at = o; looks = false; light = true })
+  touched_drain o high e = subst (λ (m : Move). Touched k c b m (record { proc = (i - 4) / 8; at = o; looks = false; light = true })) (sym (cond-false _ _ _ (le-ltb i 4 high))) (drain_touched ((i - 4) / 8) ((i - 4) % 8) o e)
 
 -- a drain that is open
 pub open_drain : (k : Buffering) (c : Case) (s : Arrays) (waits done i : ℕ) → Waits k s.log s.logged waits → 4 ≤ i → i < 36 → has done i ≡ false
@@ -137,3 +157,8 @@ open_drain k c s waits done i W high low fresh =
     ap (λ (x : Bool). (ltb p c.procs && ltb b c.locs) && x) (ap (has waits) (sym n) ∙ W.holds p b (omega arith) (omega arith))
     ∙ sym (ap (λ (m : Move). allowed k c (shown k c s) m) (cond-false _ _ _ (le-ltb i 4 high)))
     ∙ sym (ap (λ (x : Bool). not x && allowed k c (shown k c s) (move_at i)) fresh)
+
+-- what stays spent, where a sure instruction is one of four
+pub kept_sure : {k : Buffering} {c : Case} {b : Board} {done i r : ℕ} (sure : Option ℕ) → IfSome sure (λ p. p < 4) → Kept k c b (cond (is_some sure) 0 4) done i r → Kept k c b (unwrap_or sure 4) done i r
+kept_sure None h K = K
+kept_sure (Some p) h K = record { had = K.had; far = λ j e l. absurd (omega (arith, h)) }

@@ -1,6 +1,6 @@
 -- From the search over a cleared buffer to the list of a case. Assumes nothing.
 use mathlib.Core.Path.{◌≡◌, refl, sym, ◌∙◌, ap, subst}
-use mathlib.Core.Logic.{◌⊎◌, inr, ⊎_elim, ◌↔◌}
+use mathlib.Core.Logic.{inr, ⊎_elim, ◌↔◌}
 use mathlib.Core.Bool.{Bool, true, false, false≢true}
 use mathlib.Core.List.Memᴰ
 use mathlib.Core.List.{List}
@@ -31,6 +31,8 @@ use Rattle.boardlisting.specs.Spent.{Known}
 use Rattle.boardlisting.specs.Ready.{Ready}
 use Rattle.boardlisting.specs.Searched.{Tells, Searched}
 use lib.Dec.{ltb}
+use borrow.Author.Tests.{lt-ltb}
+use Rattle.std.specs.Prelude.{Option, Some, None, IfSome, unwrap_or}
 use mathlib.Core.Bool.{cond}
 use Rattle.boardlisting.proofs.Loop.{left_at, Sweeping, sweep_all}
 use Rattle.machine.specs.Fit.{Fit}
@@ -95,6 +97,17 @@ last_most j = step (ltb j 4) refl
     step true e = omega (arith, borrow.Author.Tests.ltb-true j 4 e)
     step false e = omega arith
 
+-- the positions from f.0 to f.1 are those to look at, with the sure instruction of a processor or without
+pub record Ends (sure : Option ℕ) (f : ℕ × ℕ) : Type 0 where
+  pub first : f.0 ≡ first_position (unwrap_or sure 4)
+  pub last : f.1 ≡ last_position (unwrap_or sure 4)
+
+pub ends_sure : {sure : Option ℕ} {f : ℕ × ℕ} (p : ℕ) → sure ≡ Some p → f ≡ (p, p + 1) → IfSome sure (λ p. p < 4) → Ends sure f
+ends_sure {sure} {f} p e g h = subst (λ (o : Option ℕ). IfSome o (λ p. p < 4) → Ends o f) (sym e) (λ l. record { first = ap (λ (z : ℕ × ℕ). z.0) g ∙ rw (lt-ltb p 4 l); last = ap (λ (z : ℕ × ℕ). z.1) g ∙ rw (lt-ltb p 4 l) }) h
+
+pub ends-all : {sure : Option ℕ} {f : ℕ × ℕ} → sure ≡ None → f ≡ (0, 36) → Ends sure f
+ends-all {sure} {f} e g = subst (λ (o : Option ℕ). Ends o f) (sym e) (record { first = ap (λ (z : ℕ × ℕ). z.0) g; last = ap (λ (z : ℕ × ℕ). z.1) g })
+
 -- the invariant of equal bytes, tally and moves that are done
 pub sweep_same : {k : Buffering} {c : Case} {b : Board} {n : ℕ} {before : List ℕ} {y : Tally} {from at done done' : ℕ} {bytes bytes' : List ℕ} {sum sum' : Tally} → bytes' ≡ bytes → done' ≡ done → sum' ≡ sum → Sweeping k c b n before y from at done bytes sum → Sweeping k c b n before y from at done' bytes' sum'
 sweep_same {k} {c} {b} {n} {before} {y} {from} {at} p d q S = subst (λ (x : Type 0). x) (λ i. Sweeping k c b n before y from at (sym d i) (sym p i) (sym q i)) S
@@ -120,7 +133,3 @@ pub swept_all : {k : Buffering} {c : Case} {b : Board} {n : ℕ} {before bytes :
     → Sweeping k c b n before y from at done bytes sum → to ≤ at → Searched k c b (suc n) before y bytes sum
 swept_all {k} {c} {b} {n} {before} {bytes} {y} {sum} {from} {at} {to} {done} j F h sure e l S end =
     sweep_all k c b n F h j sure (subst (λ (f : ℕ). Sweeping k c b n before y f at done bytes sum) e S) (omega arith)
-
--- what is known, of a bound that is not 0
-pub as_known : {k : Buffering} {c : Case} {b : Board} {n spent : ℕ} {T : Question → Type 0} → 0 < n → Known k c b n spent T → Known k c b (suc (n - 1)) spent T
-as_known {k} {c} {b} {n} {spent} {T} more K = let one : suc (n - 1) ≡ n = omega arith in subst (λ (m : ℕ). Known k c b m spent T) (sym one) K

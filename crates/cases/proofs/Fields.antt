@@ -1,31 +1,35 @@
--- The table of fields says what the definition says: one test over the whole table, and the rule at each entry. Assumes nothing.
-use mathlib.Core.Path.{◌≡◌, refl, ap, sym, ◌∙◌}
-use mathlib.Core.Bool.{Bool, true, false, ◌&&◌, ◌||◌, not, false≢true}
+-- What the code says of a byte of an instruction is what the definition says. Assumes nothing.
+use mathlib.Core.Path.{◌≡◌, refl, sym}
+use denote.Enum.Bare.{sameb}
+use mathlib.Core.Bool.{Bool, true, ◌||◌, false≢true}
 use mathlib.Core.List.{List, [], ◌∷◌}
-use Prim.Native.Nat.{ℕ, zero, suc, ◌+◌, ◌*◌, ◌-◌, ◌%◌, ◌<◌, ◌≤◌}
-use native.Mathlib.Omega.{arith}
-use lib.Dec.{eqb, ltb, leb, lit<}
-use lib.ListN.{get_or, get_or-eq_default}
-use borrow.Author.Tests.{lt-ltb, eq-eqb, ne_eqb}
+use Prim.Native.Nat.{ℕ, ◌+◌, ◌*◌, ◌-◌, ◌%◌, ◌<◌}
+use lib.Dec.{eqb, ltb}
+use lib.ListN.{get_or}
+use borrow.Author.Tests.{eq-eqb, ne_eqb}
 use Rattle.words.specs.Small.{all, counting}
-use Rattle.words.proofs.Bools.{cond-true, cond-false, or_nothing}
 use Rattle.words.proofs.Lists.{all_below}
-use Rattle.cases.specs.Instruction.{Field, zeroed, assigned, read, free, label, fields, field_at, field_of, bad_field, is_assigned, is_read}
+use Rattle.words.proofs.Bools.{cond-true, cond-false}
+use Rattle.cases.specs.declared.faults.FieldKind.{FieldKind}
+use Rattle.cases.specs.declared.faults.FieldKind.TheVariants.{Zeroed, Assigned, Read, Free, Label}
+use Rattle.cases.specs.contracts.faults.FieldKind.{the_type}
+use Rattle.cases.specs.Instruction.{Field, zeroed, assigned, read, free, label, field_at, field_of, bad_field, is_assigned, is_read}
 use Rattle.cases.specs.Block.{byte, word, bad_byte}
 
-abbrev pub table : List ℕ
+-- what the code says of each op's five bytes, one op after the other; and that the definition says so
+abbrev pub table : List FieldKind
 table =
-    0 ∷ 0 ∷ 0 ∷ 0 ∷ 0
-    ∷ 1 ∷ 2 ∷ 0 ∷ 0 ∷ 0
-    ∷ 0 ∷ 2 ∷ 2 ∷ 0 ∷ 0
-    ∷ 1 ∷ 0 ∷ 0 ∷ 3 ∷ 3
-    ∷ 1 ∷ 2 ∷ 2 ∷ 0 ∷ 0
-    ∷ 1 ∷ 2 ∷ 2 ∷ 0 ∷ 0
-    ∷ 1 ∷ 2 ∷ 2 ∷ 0 ∷ 0
-    ∷ 0 ∷ 2 ∷ 0 ∷ 4 ∷ 3
-    ∷ 0 ∷ 0 ∷ 0 ∷ 4 ∷ 3
-    ∷ 0 ∷ 2 ∷ 0 ∷ 0 ∷ 0
-    ∷ 0 ∷ 2 ∷ 0 ∷ 0 ∷ 0
+    Zeroed ∷ Zeroed ∷ Zeroed ∷ Zeroed ∷ Zeroed
+    ∷ Assigned ∷ Read ∷ Zeroed ∷ Zeroed ∷ Zeroed
+    ∷ Zeroed ∷ Read ∷ Read ∷ Zeroed ∷ Zeroed
+    ∷ Assigned ∷ Zeroed ∷ Zeroed ∷ Free ∷ Free
+    ∷ Assigned ∷ Read ∷ Read ∷ Zeroed ∷ Zeroed
+    ∷ Assigned ∷ Read ∷ Read ∷ Zeroed ∷ Zeroed
+    ∷ Assigned ∷ Read ∷ Read ∷ Zeroed ∷ Zeroed
+    ∷ Zeroed ∷ Read ∷ Zeroed ∷ Label ∷ Free
+    ∷ Zeroed ∷ Zeroed ∷ Zeroed ∷ Label ∷ Free
+    ∷ Zeroed ∷ Read ∷ Zeroed ∷ Zeroed ∷ Zeroed
+    ∷ Zeroed ∷ Read ∷ Zeroed ∷ Zeroed ∷ Zeroed
     ∷ []
 
 abbrev number : Field → ℕ
@@ -63,41 +67,29 @@ same label free h = absurd (false≢true h)
 same label label h = refl
 
 abbrev entry : ℕ → ℕ → Bool
-entry op k = eqb (number (field_of (get_or table (5 * op + k) 0))) (number (field_at op k))
+entry op k = eqb (number (field_of (get_or table (5 * op + k) Zeroed))) (number (field_at op k))
 
 whole : all (λ op. all (entry op) (counting 0 5)) (counting 0 11) ≡ true
 whole = refl
 
-pub table_rule : (op k : ℕ) → op < 11 → k < 5 → field_of (get_or table (5 * op + k) 0) ≡ field_at op k
+pub table_rule : (op k : ℕ) → op < 11 → k < 5 → field_of (get_or table (5 * op + k) Zeroed) ≡ field_at op k
 table_rule op k h l = same _ _ (all_below (entry op) 5 (all_below (λ op. all (entry op) (counting 0 5)) 11 whole op h) k l)
 
-pub no_field : (op k : ℕ) → 11 ≤ op → zeroed ≡ field_at op k
-no_field op k h = ap (λ (l : List Field). get_or l k zeroed) (sym (get_or-eq_default fields [] h))
+-- the code's tests of a field
 
--- a number past the last field's
-far : (f k : ℕ) → k < 4 → eqb (suc (suc (suc (suc f)))) k ≡ false
-far f k h = ne_eqb (suc (suc (suc (suc f)))) k (λ e. absurd (omega arith))
+pub assigned_field : (f : FieldKind) → sameb the_type f Assigned ≡ is_assigned (field_of f)
+assigned_field Zeroed = refl
+assigned_field Assigned = refl
+assigned_field Read = refl
+assigned_field Free = refl
+assigned_field Label = refl
 
-pub bad_field_lem : (f n v w : ℕ) → ((eqb f 0 && not (eqb v 0)) || ((eqb f 1 || eqb f 2) && leb 8 v) || (ltb 3 f && ltb n w)) ≡ bad_field (field_of f) n v w
-bad_field_lem zero n v w = or_nothing _ ∙ or_nothing _
-bad_field_lem (suc zero) n v w = or_nothing _
-bad_field_lem (suc (suc zero)) n v w = or_nothing _
-bad_field_lem (suc (suc (suc zero))) n v w = refl
-bad_field_lem (suc (suc (suc (suc f)))) n v w = rw (far f 0 (lit< tt), far f 1 (lit< tt), far f 2 (lit< tt), lt-ltb 3 (suc (suc (suc (suc f)))) (omega arith))
-
-pub assigned_field : (f : ℕ) → eqb f 1 ≡ is_assigned (field_of f)
-assigned_field zero = refl
-assigned_field (suc zero) = refl
-assigned_field (suc (suc zero)) = refl
-assigned_field (suc (suc (suc zero))) = refl
-assigned_field (suc (suc (suc (suc f)))) = far f 1 (lit< tt)
-
-pub read_field : (f : ℕ) → eqb f 2 ≡ is_read (field_of f)
-read_field zero = refl
-read_field (suc zero) = refl
-read_field (suc (suc zero)) = refl
-read_field (suc (suc (suc zero))) = refl
-read_field (suc (suc (suc (suc f)))) = far f 2 (lit< tt)
+pub read_field : (f : FieldKind) → sameb the_type f Read ≡ is_read (field_of f)
+read_field Zeroed = refl
+read_field Assigned = refl
+read_field Read = refl
+read_field Free = refl
+read_field Label = refl
 
 -- bad_byte: the op, and a byte after it
 

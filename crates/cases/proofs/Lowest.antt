@@ -3,11 +3,11 @@ use mathlib.Core.Path.{◌≡◌, refl, ap, sym, ◌∙◌, subst}
 use mathlib.Core.Logic.{⊎_elim}
 use mathlib.Core.Bool.{Bool, true, false, ◌&&◌, cond, false≢true}
 use mathlib.Core.List.{List, [], ◌∷◌}
-use Prim.Native.Nat.{ℕ, zero, suc, ◌<◌, ◌≤◌}
+use Prim.Native.Nat.{ℕ, zero, suc, ◌+◌, ◌<◌, ◌≤◌}
 use native.Mathlib.Omega.{arith}
-use native.Mathlib.Decide.{dec_lt}
-use lib.Dec.{eqb, ltb, lit<}
-use lib.ListN.{get_or-eq_default}
+use lib.Dec.{eqb, ltb, lit<, lit≤}
+use lib.ListN.{get_or, get_or-eq_default}
+use borrow.Author.Count.{below_more}
 use borrow.Author.Tests.{lt-ltb, le-ltb}
 use Rattle.words.specs.Small.{some_below}
 use Rattle.words.specs.Refusals.{first_code_of}
@@ -61,44 +61,34 @@ module _ (n : ℕ) (f : ℕ → Bool) where
   pub none-lowest : ((k : ℕ) → k < n → f k ≡ false) → n ≡ lowest n f
   none-lowest h = lowest_is n f n (omega arith) h (λ b. absurd (omega arith))
 
--- the codes before one have no bad position
+-- the codes that judge tries, in their order
+abbrev pub codes : List ℕ
+codes = 3 ∷ 4 ∷ 5 ∷ 6 ∷ 7 ∷ 19 ∷ []
+
+-- the first n of them have no bad position
 abbrev pub Passed : List ℕ → ℕ → Type 0
-Passed s code = (k : ℕ) → k < code → some_below 510 (bad s k) ≡ false
+Passed s n = (k : ℕ) → k < n → some_below 510 (bad s (get_or codes k 0)) ≡ false
 
 module _ (s : List ℕ) where
-  no_byte : (k : ℕ) → k < 3 → (i : ℕ) → bad s k i ≡ false
+  pub passed_more : (n : ℕ) → Passed s n → 510 ≤ lowest 510 (bad s (get_or codes n 0)) → Passed s (n + 1)
+  passed_more n passed h = below_more _ n passed (none_bad 510 (bad s (get_or codes n 0)) h)
+
+  first_code : (n : ℕ) → n < 6 → Passed s n → some_below 510 (bad s (get_or codes n 0)) ≡ true → get_or codes n 0 ≡ first_code_of (faults s)
   unfolding bad
-  no_byte zero h i = refl
-  no_byte (suc zero) h i = refl
-  no_byte (suc (suc zero)) h i = refl
-  no_byte (suc (suc (suc k))) h i = absurd (omega arith)
+  first_code zero l p e = first (faults s) (hit e)
+  first_code (suc zero) l p e = first (faults s) (miss (p 0 (lit< tt)) (hit e))
+  first_code (suc (suc zero)) l p e = first (faults s) (miss (p 0 (lit< tt)) (miss (p 1 (lit< tt)) (hit e)))
+  first_code (suc (suc (suc zero))) l p e = first (faults s) (miss (p 0 (lit< tt)) (miss (p 1 (lit< tt)) (miss (p 2 (lit< tt)) (hit e))))
+  first_code (suc (suc (suc (suc zero)))) l p e =
+      first (faults s) (miss (p 0 (lit< tt)) (miss (p 1 (lit< tt)) (miss (p 2 (lit< tt)) (miss (p 3 (lit< tt)) (hit e)))))
+  first_code (suc (suc (suc (suc (suc zero))))) l p e =
+      first (faults s) (miss (p 0 (lit< tt)) (miss (p 1 (lit< tt)) (miss (p 2 (lit< tt)) (miss (p 3 (lit< tt)) (miss (p 4 (lit< tt)) (hit e))))))
+  first_code (suc (suc (suc (suc (suc (suc n)))))) l p e = absurd (omega arith)
 
-  pub passed_start : Passed s 3
-  passed_start k h = no_position 510 (bad s k) (λ i b. no_byte k h i)
-
-  pub passed_more : (code : ℕ) → Passed s code → 510 ≤ lowest 510 (bad s code) → Passed s (suc code)
-  passed_more code passed h k b = elim (dec_lt k code) [ yes l ↦ passed k l | no g ↦ subst (λ (n : ℕ). some_below 510 (bad s n) ≡ false) (omega arith) (none_bad 510 (bad s code) h) ]
-
-  first_code : (code : ℕ) → 3 ≤ code → code < 8 → Passed s code → some_below 510 (bad s code) ≡ true → code ≡ first_code_of (faults s)
+  no_code_lem : Passed s 6 → 0 ≡ first_code_of (faults s)
   unfolding bad
-  first_code zero l h p e = absurd (omega arith)
-  first_code (suc zero) l h p e = absurd (omega arith)
-  first_code (suc (suc zero)) l h p e = absurd (omega arith)
-  first_code (suc (suc (suc zero))) l h p e = first (faults s) (hit e)
-  first_code (suc (suc (suc (suc zero)))) l h p e = first (faults s) (miss (p 3 (lit< tt)) (hit e))
-  first_code (suc (suc (suc (suc (suc zero))))) l h p e = first (faults s) (miss (p 3 (lit< tt)) (miss (p 4 (lit< tt)) (hit e)))
-  first_code (suc (suc (suc (suc (suc (suc zero)))))) l h p e = first (faults s) (miss (p 3 (lit< tt)) (miss (p 4 (lit< tt)) (miss (p 5 (lit< tt)) (hit e))))
-  first_code (suc (suc (suc (suc (suc (suc (suc zero))))))) l h p e =
-      first (faults s) (miss (p 3 (lit< tt)) (miss (p 4 (lit< tt)) (miss (p 5 (lit< tt)) (miss (p 6 (lit< tt)) (hit e)))))
-  first_code (suc (suc (suc (suc (suc (suc (suc (suc k)))))))) l h p e = absurd (omega arith)
-
-  first_19 : Passed s 8 → some_below 510 (bad s 19) ≡ true → 19 ≡ first_code_of (faults s)
-  unfolding bad
-  first_19 p e = first (faults s) (miss (p 3 (lit< tt)) (miss (p 4 (lit< tt)) (miss (p 5 (lit< tt)) (miss (p 6 (lit< tt)) (miss (p 7 (lit< tt)) (hit e))))))
-
-  no_code_lem : Passed s 8 → some_below 510 (bad s 19) ≡ false → 0 ≡ first_code_of (faults s)
-  unfolding bad
-  no_code_lem p e = first (faults s) (miss (p 3 (lit< tt)) (miss (p 4 (lit< tt)) (miss (p 5 (lit< tt)) (miss (p 6 (lit< tt)) (miss (p 7 (lit< tt)) (miss e none))))))
+  no_code_lem p =
+      first (faults s) (miss (p 0 (lit< tt)) (miss (p 1 (lit< tt)) (miss (p 2 (lit< tt)) (miss (p 3 (lit< tt)) (miss (p 4 (lit< tt)) (miss (p 5 (lit< tt)) none))))))
 
   -- a code that is the one asked for, with its position
   fault_is : (code position n : ℕ) → code ≡ n → position ≡ position_of s code → record { code = code; position = position } ≡ fault_of s n
@@ -109,26 +99,27 @@ module _ (s : List ℕ) where
   unfolding position_of
   fault_none code n h p = fault_is code 0 n p (sym (cond-true (ltb code 3) 0 _ (lt-ltb code 3 h)))
 
-  -- the answers of judge: at a code with a bad position, at 19, and after it
+  -- the answers of judge: at a code with a bad position, and after all
+  at_least_3 : (n : ℕ) → n < 6 → 3 ≤ get_or codes n 0
+  at_least_3 zero l = lit≤ tt
+  at_least_3 (suc zero) l = lit≤ tt
+  at_least_3 (suc (suc zero)) l = lit≤ tt
+  at_least_3 (suc (suc (suc zero))) l = lit≤ tt
+  at_least_3 (suc (suc (suc (suc zero)))) l = lit≤ tt
+  at_least_3 (suc (suc (suc (suc (suc zero))))) l = lit≤ tt
+  at_least_3 (suc (suc (suc (suc (suc (suc n)))))) l = absurd (omega arith)
+
   found : (code n position : ℕ) → 3 ≤ code → code ≡ n → position ≡ lowest 510 (bad s code) → record { code = code; position = position } ≡ fault_of s n
   unfolding position_of
   found code n position l p e = fault_is code position n p (e ∙ sym (cond-false (ltb code 3) 0 _ (le-ltb code 3 l)))
 
-  some-low : (code position : ℕ) → position ≡ lowest 510 (bad s code) → position < 510 → some_below 510 (bad s code) ≡ true
-  some-low code position e b = some_bad 510 (bad s code) (subst (λ (n : ℕ). n < 510) e b)
+  pub judge_found : (n position : ℕ) → n < 6 → Passed s n → position ≡ lowest 510 (bad s (get_or codes n 0)) → position < 510 →
+      record { code = get_or codes n 0; position = position } ≡ fault_of s (first_code_of (faults s))
+  judge_found n position l p e b =
+      found (get_or codes n 0) _ position (at_least_3 n l) (first_code n l p (some_bad 510 (bad s (get_or codes n 0)) (subst (λ (m : ℕ). m < 510) e b))) e
 
-  pub judge_found : (code position : ℕ) → 3 ≤ code → code < 8 → Passed s code → position ≡ lowest 510 (bad s code) → position < 510 → record { code = code; position = position } ≡ fault_of s (first_code_of (faults s))
-  judge_found code position l h p e b = found code _ position l (first_code code l h p (some-low code position e b)) e
-
-  module _ (code : ℕ) (l : 8 ≤ code) (h : code ≤ 8) (p : Passed s code) (position : ℕ) (e : position ≡ lowest 510 (bad s 19)) where
-    passed : Passed s 8
-    passed = subst (Passed s) (omega arith) p
-
-    pub judge_19 : position < 510 → record { code = 19; position = position } ≡ fault_of s (first_code_of (faults s))
-    judge_19 b = found 19 _ position (omega arith) (first_19 passed (some-low 19 position e b)) e
-
-    pub judge-none : 510 ≤ position → record { code = 0; position = 0 } ≡ fault_of s (first_code_of (faults s))
-    judge-none b = fault_none 0 _ (lit< tt) (no_code_lem passed (none_bad 510 (bad s 19) (subst (λ (n : ℕ). 510 ≤ n) e b)))
+  pub judge-none : Passed s 6 → record { code = 0; position = 0 } ≡ fault_of s (first_code_of (faults s))
+  judge-none p = fault_none 0 _ (lit< tt) (no_code_lem p)
 
 -- bad: the test of each code
 module _ (s : List ℕ) (i : ℕ) where

@@ -1,12 +1,14 @@
 -- Buffers that are filled from the front on. Assumes nothing.
 use mathlib.Core.Path.{◌≡◌, refl, ap, sym, ◌∙◌}
 use mathlib.Core.List.{List, [], ◌∷◌, ◌++◌, map, append_assoc, append-nil}
-use Prim.Native.Nat.{ℕ, suc, ◌+◌, ◌*◌, ◌-◌, ◌<◌, ◌≤◌}
-use native.Mathlib.Nat.{add-zero, mul-suc, mul-zero}
+use Prim.Native.Nat.{ℕ, ◌+◌, ◌*◌, ◌-◌, ◌/◌, ◌%◌, ◌<◌}
+use native.Mathlib.Nat.{mul-suc, mul-zero}
 use native.Mathlib.Numerals.{add-one}
 use native.Mathlib.Omega.{arith}
-use lib.ListN.{length, get_or, take, set, replicate, length-append, length-map, replicate-append-replicate}
-use lib.Seq.{take-suc-set, take-suc, take-length, length-take-le, take-append-add, take_all, take_at}
+use lib.ListN.{length, get_or, take, replicate, length-append, length-map}
+use lib.Seq.{take-length, length-take-le, take-append-add, take_all, take_at}
+use Rattle.std.proofs.Common.{w16}
+use Rattle.std.specs.Int.{to_le_bytes}
 use Rattle.words.specs.Small.{concat_map}
 use Rattle.words.proofs.Lists.{concat_map_more, concat_map-length}
 use Rattle.cases.specs.declared.Expr.{Expr}
@@ -18,27 +20,6 @@ use Rattle.cases.specs.declared.Case.{Case}
 use Rattle.cases.specs.Instruction.{two, local_bytes, instr_bytes}
 use Rattle.cases.specs.Block.{check, slot_bytes, contents}
 use Rattle.cases.specs.Putting.{Put}
-
--- put: one byte more
-
-pub put_none : (b bytes : List ℕ) (at : ℕ) → take (at + 0) b ≡ take at b ++ take 0 bytes
-put_none b bytes at = ap (λ (n : ℕ). take n b) (add-zero at) ∙ sym (append-nil (take at b))
-
-module _ (b₀ b bytes : List ℕ) (at i : ℕ) where
-  pub put_more : at + i < length b → i < length bytes → take (at + i) b ≡ take at b₀ ++ take i bytes → take (at + (i + 1)) (set b (at + i) (get_or bytes i 0)) ≡ take at b₀ ++ take (i + 1) bytes
-  put_more h k e =
-      let q : at + (i + 1) ≡ suc (at + i) = omega arith in
-      ap (λ (n : ℕ). take n (set b (at + i) (get_or bytes i 0))) q
-      ∙ take-suc-set b (at + i) (get_or bytes i 0) h
-      ∙ ap (λ (l : List ℕ). l ++ (get_or bytes i 0 ∷ [])) e
-      ∙ append_assoc (take at b₀) (take i bytes) (get_or bytes i 0 ∷ [])
-      ∙ ap (λ (l : List ℕ). take at b₀ ++ l) (sym (take-suc bytes i 0 k))
-      ∙ ap (λ (n : ℕ). take at b₀ ++ take n bytes) (sym (add-one i))
-
-  pub put_all : length bytes ≤ i → i ≤ length bytes → length b ≡ length b₀ → take (at + i) b ≡ take at b₀ ++ take i bytes → Put b₀ at bytes b
-  put_all h k long e =
-      let q : i ≡ length bytes = omega arith in
-      record { long = long; front = ap (λ (n : ℕ). take (at + n) b) (sym q) ∙ e ∙ ap (λ (n : ℕ). take at b₀ ++ take n bytes) q ∙ ap (λ (l : List ℕ). take at b₀ ++ l) (take-length bytes) }
 
 -- put_words, put_code: one part of m bytes more
 
@@ -69,30 +50,11 @@ module _ {A : Type 0} (f : A → List ℕ) (m : ℕ) (wide : (x : A) → length 
             ∙ ap (λ (t : List A). take at b₀ ++ concat_map f t) (take-length l);
       }
 
--- clear: one zero more
-
-module _ (b₀ b : List ℕ) (from i : ℕ) where
-  pub zeros_more : i < length b → from ≤ i → take i b ≡ take from b₀ ++ replicate (i - from) 0 → take (i + 1) (set b i 0) ≡ take from b₀ ++ replicate (i + 1 - from) 0
-  zeros_more h k e =
-      let q : i - from + 1 ≡ i + 1 - from = omega arith in
-      ap (λ (n : ℕ). take n (set b i 0)) (add-one i)
-      ∙ take-suc-set b i 0 h
-      ∙ ap (λ (l : List ℕ). l ++ (0 ∷ [])) e
-      ∙ append_assoc (take from b₀) (replicate (i - from) 0) (0 ∷ [])
-      ∙ ap (λ (l : List ℕ). take from b₀ ++ l) (replicate-append-replicate (i - from) 1 0)
-      ∙ ap (λ (n : ℕ). take from b₀ ++ replicate n 0) q
-
-  pub zeros_all : length b ≤ i → i ≤ length b → length b ≡ length b₀ → take i b ≡ take from b₀ ++ replicate (i - from) 0 → b ≡ take from b₀ ++ replicate (length b₀ - from) 0
-  zeros_all h k long e =
-      let q : i ≡ length b = omega arith in
-      sym (take-length b) ∙ ap (λ (n : ℕ). take n b) (sym q) ∙ e ∙ ap (λ (n : ℕ). take from b₀ ++ replicate (n - from) 0) (q ∙ long)
-
-pub zeros_none : (b : List ℕ) (from : ℕ) → take from b ≡ take from b ++ replicate (from - from) 0
-zeros_none b from =
-    let q : 0 ≡ from - from = omega arith in
-    sym (append-nil (take from b)) ∙ ap (λ (n : ℕ). take from b ++ replicate n 0) q
-
 -- fill: the parts one after the other
+
+-- the two bytes of a number, as std gives them
+pub two_bytes : (n : ℕ) → n < 65536 → to_le_bytes w16 n ≡ two n
+two_bytes n h = let e : n / 256 % 256 ≡ n / 256 = omega arith in ap (λ (z : ℕ). n % 256 ∷ z ∷ []) e
 
 pub two-wide : (n : ℕ) → length (two n) ≡ 2
 two-wide n = refl
@@ -162,13 +124,12 @@ module _ (c : Case) (counts : length c.counts ≡ 4) (masks : length c.masks ≡
 
 -- the length of a list from that of its values
 
-pub long_of : {X Y : Type 0} (g : X → Y) (l : List X) (n : ℕ) → length (map g l) ≡ n → length l ≡ n
-long_of g l n h = sym (length-map l g) ∙ h
-
--- sign
-
 pub signed : (b b' pair : List ℕ) (sum : ℕ) → length b ≡ 512 → sum ≡ check b → pair ≡ two sum → Put b 510 pair b' → b' ≡ take 510 b ++ two (check b)
 signed b b' pair sum long e q p =
     sym (take_all 512 b' (omega (arith, p.long)))
     ∙ put_on (take 510 b) b pair b' 510 512 refl (omega (arith, ap length q)) p
     ∙ ap (λ (l : List ℕ). take 510 b ++ l) (q ∙ ap two e)
+
+-- a list is as long as what a function makes of it
+pub long_of : {X Y : Type 0} (g : X → Y) (l : List X) (n : ℕ) → length (map g l) ≡ n → length l ≡ n
+long_of g l n h = sym (length-map l g) ∙ h

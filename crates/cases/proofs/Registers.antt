@@ -2,24 +2,23 @@
 use mathlib.Core.Path.{◌≡◌, refl, ap, sym, ◌∙◌}
 use mathlib.Core.Bool.{Bool, true, false, ◌&&◌, ◌||◌, not}
 use mathlib.Core.List.{List}
-use Prim.Native.Nat.{ℕ, suc, ◌+◌, ◌*◌, ◌-◌, ◌%◌, ◌≤◌}
+use Prim.Native.Nat.{ℕ, ◌+◌, ◌*◌, ◌-◌, ◌%◌}
 use native.Mathlib.Numerals.{add-one}
 use native.Mathlib.Omega.{arith}
 use lib.Dec.{eqb}
 use borrow.Author.Tests.{eq-eqb, ne_eqb}
 use Rattle.words.specs.Small.{some_below}
 use Rattle.words.specs.Sets.{has}
-use Rattle.cases.specs.Instruction.{field_at, field_of, is_assigned, is_read}
+use Rattle.cases.specs.Instruction.{field_at, is_assigned, is_read}
 use Rattle.cases.specs.Block.{within, proc_at, number_at, byte_at, byte, used, assigns_at, is_set, reads_at, bad19}
-use Rattle.cases.proofs.Fields.{assigned_field, read_field}
 
 -- assigns_at
-pub assigns_is : (s : List ℕ) (p n r f op d : ℕ) → field_of f ≡ field_at op 0 → op ≡ byte s (92 + (72 * p + 6 * n)) → d ≡ byte s (93 + (72 * p + 6 * n)) → (used s p n && eqb f 1 && eqb d r) ≡ assigns_at s p n r
+pub assigns_is : (s : List ℕ) (p n r op d : ℕ) (named : Bool) → named ≡ is_assigned (field_at op 0) → op ≡ byte s (92 + (72 * p + 6 * n)) → d ≡ byte s (93 + (72 * p + 6 * n)) → (used s p n && named && eqb d r) ≡ assigns_at s p n r
 unfolding assigns_at
-assigns_is s p n r f op d h e k =
+assigns_is s p n r op d named h e k =
     let q : 92 + (72 * p + 6 * n) ≡ 92 + 72 * p + 6 * n = omega arith in
     let q' : 93 + (72 * p + 6 * n) ≡ 93 + 72 * p + 6 * n = omega arith in
-    let a = assigned_field f ∙ ap is_assigned h ∙ ap (λ (o : ℕ). is_assigned (field_at o 0)) (e ∙ ap (byte s) q) in
+    let a = h ∙ ap (λ (o : ℕ). is_assigned (field_at o 0)) (e ∙ ap (byte s) q) in
     let b = ap (λ (x : ℕ). eqb x r) (k ∙ ap (byte s) q') in
     λ t. used s p n && a t && b t
 
@@ -57,9 +56,9 @@ module _ (op i : ℕ) where
   unfolding reads_at
   op_unread h = sym (ap (λ (b : Bool). not b && is_read (field_at op ((i - 92) % 6 - 1))) (eq-eqb ((i - 92) % 6) 0 h))
 
-  pub field_read : (f : ℕ) → ((i - 92) % 6 ≡ 0 → ⊥) → field_of f ≡ field_at op ((i - 92) % 6 - 1) → eqb f 2 ≡ reads_at op i
+  pub field_read : (named : Bool) → ((i - 92) % 6 ≡ 0 → ⊥) → named ≡ is_read (field_at op ((i - 92) % 6 - 1)) → named ≡ reads_at op i
   unfolding reads_at
-  field_read f h e = read_field f ∙ ap is_read e ∙ sym (ap (λ (b : Bool). not b && is_read (field_at op ((i - 92) % 6 - 1))) (ne_eqb ((i - 92) % 6) 0 h))
+  field_read named h e = e ∙ sym (ap (λ (b : Bool). not b && is_read (field_at op ((i - 92) % 6 - 1))) (ne_eqb ((i - 92) % 6) 0 h))
 
 -- bad19: a used instruction's register read, or none
 module _ (s : List ℕ) (i : ℕ) where

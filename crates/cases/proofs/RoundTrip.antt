@@ -3,7 +3,7 @@ use mathlib.Core.Path.{◌≡◌, refl, ap, sym, ◌∙◌, subst}
 use mathlib.Core.Logic.{◌↔◌, ⊎_elim}
 use mathlib.Core.Bool.{false, not}
 use mathlib.Core.List.{List, ◌++◌}
-use Prim.Native.Nat.{ℕ, zero, suc, ◌<◌}
+use Prim.Native.Nat.{ℕ, ◌<◌}
 use native.Mathlib.Omega.{arith}
 use lib.Dec.{eqb, ltb, lit<}
 use lib.ListN.{length, get_or, set, take, replicate, length-set}
@@ -16,7 +16,7 @@ use Rattle.cases.specs.declared.Case.{Case}
 use Rattle.cases.specs.declared.CaseRead.{CaseRead}
 use Rattle.cases.specs.declared.Fault.{Fault}
 use Rattle.cases.specs.Instruction.{two}
-use Rattle.cases.specs.Block.{byte, word, check, faults, refusals, case_of, case_with, read_of, contents, block_of, Sound, unbounded, seal_code, seal_fault, sealed, write_code, write_fault, written}
+use Rattle.cases.specs.Block.{byte, word, check, faults, case_of, case_with, read_of, contents, block_of, Sound, unbounded, seal_code, seal_fault, sealed, write_code, write_fault, written}
 use Rattle.cases.specs.Formed.{Bytes, Formed, Held, Rewritten}
 use Rattle.cases.proofs.Agree.{faults_alike, faults_same, check_same}
 use Rattle.cases.proofs.Held.{clean, few_second, contents-back, word_part}

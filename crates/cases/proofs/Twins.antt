@@ -6,7 +6,6 @@ use lib.Dec.{ltb}
 use borrow.Author.Tests.{le-ltb}
 use Rattle.words.specs.Refusals.{first_code_of}
 use Rattle.cases.specs.declared.Fault.{Fault}
-use Rattle.cases.specs.declared.Case.{Case}
 use Rattle.cases.specs.Block.{byte, refusals, case_of, case_with, read_of}
 use Rattle.cases.specs.Formed.{Twins}
 use Rattle.cases.proofs.Agree.{faults_alike, fault_alike}

@@ -1,7 +1,9 @@
 -- An instruction's six bytes: op, d, a, b, then a two-byte constant. Assumes nothing.
-use Rattle.std.specs.Prelude.{Bool, true, false, not, List, [], ◌∷◌, ℕ, zero, suc, ◌/◌, ◌%◌, eqb, ltb, leb, get_or}
+use Rattle.std.specs.Prelude.{Bool, true, false, not, List, [], ◌∷◌, ℕ, ◌/◌, ◌%◌, eqb, ltb, leb, get_or}
 use Rattle.cases.specs.declared.Instr.{Instr}
 use Rattle.cases.specs.declared.Instr.TheVariants.{Empty, Read, Write, Local, Branch, Goto, Acquire, Release}
+use Rattle.cases.specs.declared.faults.FieldKind.{FieldKind}
+use Rattle.cases.specs.declared.faults.FieldKind.TheVariants.{Zeroed, Assigned, Read as ReadOne, Free, Label}
 use Rattle.cases.specs.declared.Expr.{Expr}
 use Rattle.cases.specs.declared.Expr.TheVariants.{Constant, Sum, Difference, Equal}
 
@@ -29,13 +31,13 @@ fields =
 abbrev pub field_at : ℕ → ℕ → Field
 field_at op k = get_or (get_or fields op []) k zeroed
 
--- The field that a number stands for in a table.
-abbrev pub field_of : ℕ → Field
-field_of zero = zeroed
-field_of (suc zero) = assigned
-field_of (suc (suc zero)) = read
-field_of (suc (suc (suc zero))) = free
-field_of (suc (suc (suc (suc n)))) = label
+-- The field that the code calls so.
+abbrev pub field_of : FieldKind → Field
+field_of Zeroed = zeroed
+field_of Assigned = assigned
+field_of ReadOne = read
+field_of Free = free
+field_of Label = label
 
 -- The byte v is bad there; the label is w, of a processor with n instructions.
 abbrev pub bad_field : Field → ℕ → ℕ → ℕ → Bool

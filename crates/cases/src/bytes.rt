@@ -1,5 +1,5 @@
 // The bytes of a block, its two-byte numbers and its check.
-ghost use Rattle.std.specs.Prelude.{◌*◌, ◌<◌};
+ghost use Rattle.std.specs.Prelude.{◌≡◌, ◌*◌, ◌<◌};
 ghost use Rattle.words.specs.Numbers.{Exact};
 ghost use Rattle.cases.specs.Block.{byte as byte_of, word as word_of, check as check_of};
 ghost use Rattle.cases.specs.Given.{Weighing};
@@ -11,12 +11,12 @@ pub fn number(block: &[u8], i: usize) -> usize
     words::wide(words::byte(block, i))
 }
 
-// The two-byte number at position i.
-pub fn word(block: &[u8], i: usize) -> usize
+// The two-byte number at position i, low byte first.
+pub fn word(block: &[u8], i: usize) -> u16
     requires { i < 511 }
-    ensures { Exact (word_of block.now i) 65536 result }
+    ensures { result ≡ word_of block.now i }
 {
-    number(block, i) + 256 * number(block, i + 1)
+    u16::from_le_bytes([words::byte(block, i), words::byte(block, i + 1)])
 }
 
 // A byte times its weight.
@@ -31,11 +31,9 @@ fn weighed(weight: usize, byte: usize) -> usize
 pub fn check(block: &[u8]) -> usize
     ensures { Exact (check_of block.now) 65521 result }
 {
-    let mut sum: usize = 0;
-    let mut i: usize = 0;
-    while i < 510 {
+    let mut sum = 0;
+    for i in 0..510 {
         sum += weighed(i + 1, number(block, i));
-        i += 1;
     }
     sum % 65521
 }

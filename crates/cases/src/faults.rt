@@ -1,5 +1,5 @@
 // Which bytes of a block are bad for codes 3 to 7 and 19, and the first code with its lowest bad position.
-ghost use Rattle.std.specs.Prelude.{◌≡◌, ◌-◌, ◌≤◌, ◌<◌};
+ghost use Rattle.std.specs.Prelude.{◌≡◌, ℕ, ◌≤◌, ◌<◌, get_or, unwrap_or, IfSome};
 ghost use Rattle.words.specs.Refusals.{first_code_of};
 ghost use Rattle.cases.specs.Instruction.{bad_field, field_at, field_of};
 ghost use Rattle.cases.specs.Block.{within as within_of, marked as is_marked, no_proc, no_loc, used as is_used, bad3 as is_bad3, bad4 as is_bad4, zero5 as must_be_zero5, bad5 as is_bad5, bad_byte, bad6 as is_bad6, bad7 as is_bad7, assigns_at, is_set, reads_at, bad19 as is_bad19, bad as is_bad, lowest as lowest_of, faults, fault_of};
@@ -8,28 +8,18 @@ ghost use Rattle.cases.specs.Given.{StartOf, EndOf, in_use, Within, Skipped};
 use crate::Fault;
 use crate::bytes::{number, word};
 
-// How far position i lies past another, 0 before it.
-fn past(from: usize, i: usize) -> usize
-    ensures { result ≡ i - from }
-{
-    if i < from {
-        return 0;
-    }
-    i - from
-}
-
 // Position i is one of from, from + 1, .., to - 1.
 fn within(from: usize, to: usize, i: usize) -> bool
     ensures { result ≡ within_of from to i }
 {
-    (from <= i) & (i < to)
+    from <= i && i < to
 }
 
 // The byte at position i is not zero.
 fn marked(block: &[u8], i: usize) -> bool
     ensures { result ≡ is_marked block.now i }
 {
-    !(words::byte(block, i) == 0)
+    words::byte(block, i) != 0
 }
 
 // Processor p is absent.
@@ -71,7 +61,8 @@ fn bad3(block: &[u8], i: usize) -> bool
 fn bad4(block: &[u8], i: usize) -> bool
     ensures { result ≡ is_bad4 block.now i }
 {
-    within(4, 8, i) & ((12 < number(block, i)) | (no_proc(block, past(4, i)) & marked(block, i)))
+    within(4, 8, i)
+        & ((12 < number(block, i)) | (no_proc(block, i.saturating_sub(4)) & marked(block, i)))
 }
 
 // A byte of 8..91 that must be zero.
@@ -79,12 +70,12 @@ fn zero5(block: &[u8], i: usize) -> bool
     requires { i < 510 }
     ensures { result ≡ must_be_zero5 block.now i }
 {
-    let p = past(12, i) / 16;
+    let p = i.saturating_sub(12) / 16;
     let mask = number(block, 8 + p) as u64;
-    let set = words::has(mask, past(12, i) / 2 % 8);
-    (within(8, 12, i) & no_proc(block, past(8, i)))
+    let set = words::has(mask, i.saturating_sub(12) / 2 % 8);
+    (within(8, 12, i) & no_proc(block, i.saturating_sub(8)))
         | (within(12, 76, i) & (no_proc(block, p) | !set))
-        | (within(76, 92, i) & no_loc(block, past(76, i) / 2))
+        | (within(76, 92, i) & no_loc(block, i.saturating_sub(76) / 2))
 }
 
 // Code 5: such a byte that is not.
@@ -95,50 +86,51 @@ fn bad5(block: &[u8], i: usize) -> bool
     zero5(block, i) & marked(block, i)
 }
 
-// The five bytes after each op from 0 to 10: 0 zero, 1 the register assigned, 2 a register read, 3 any byte, 4 the low byte of a label.
-const FIELDS: [u8; 55] = [
-    // 0: no instruction
-    0, 0, 0, 0, 0,
-    // 1: read
-    1, 2, 0, 0, 0,
-    // 2: write
-    0, 2, 2, 0, 0,
-    // 3: constant
-    1, 0, 0, 3, 3,
-    // 4: sum
-    1, 2, 2, 0, 0,
-    // 5: difference
-    1, 2, 2, 0, 0,
-    // 6: equal
-    1, 2, 2, 0, 0,
-    // 7: branch
-    0, 2, 0, 4, 3,
-    // 8: goto
-    0, 0, 0, 4, 3,
-    // 9: acquire
-    0, 2, 0, 0, 0,
-    // 10: release
-    0, 2, 0, 0, 0,
-];
+// What a byte after the op may be: zero, the register assigned, a register read, any byte, the low byte of a label.
+#[derive(Clone, Copy, PartialEq, Eq)]
+enum FieldKind {
+    Zeroed,
+    Assigned,
+    Read,
+    Free,
+    Label,
+}
+
+// What the five bytes after this op may be.
+fn fields(op: usize) -> [FieldKind; 5]
+    ensures { (k : ℕ) → field_of (get_or result k FieldKind.Zeroed) ≡ field_at op k }
+{
+    use FieldKind::{Assigned, Free, Label, Read, Zeroed};
+    match op {
+        1 => [Assigned, Read, Zeroed, Zeroed, Zeroed],
+        2 => [Zeroed, Read, Read, Zeroed, Zeroed],
+        3 => [Assigned, Zeroed, Zeroed, Free, Free],
+        4 | 5 | 6 => [Assigned, Read, Read, Zeroed, Zeroed],
+        7 => [Zeroed, Read, Zeroed, Label, Free],
+        8 => [Zeroed, Zeroed, Zeroed, Label, Free],
+        9 | 10 => [Zeroed, Read, Zeroed, Zeroed, Zeroed],
+        _ => [Zeroed; 5],
+    }
+}
 
 // What byte k after this op may be.
-fn field(op: usize, k: usize) -> u8
+fn field(op: usize, k: usize) -> FieldKind
     requires { k < 5 }
     ensures { field_of result ≡ field_at op k }
 {
-    if op < 11 {
-        return FIELDS[5 * op + k];
-    }
-    0
+    fields(op)[k]
 }
 
 // The byte v is bad for this field; a label is w, of a processor with n instructions.
-fn bad_field(field: u8, n: usize, v: usize, w: usize) -> bool
+fn bad_field(field: FieldKind, n: usize, v: usize, w: usize) -> bool
     ensures { result ≡ bad_field (field_of field) n v w }
 {
-    ((field == 0) & !(v == 0))
-        | (((field == 1) | (field == 2)) & (8 <= v))
-        | ((3 < field) & (n < w))
+    match field {
+        FieldKind::Zeroed => v != 0,
+        FieldKind::Assigned | FieldKind::Read => 8 <= v,
+        FieldKind::Free => false,
+        FieldKind::Label => n < w,
+    }
 }
 
 // The byte at position i of a slot with this op, of a processor with n instructions, is bad.
@@ -146,11 +138,17 @@ fn bad_byte(block: &[u8], op: usize, n: usize, i: usize) -> bool
     requires { i < 510 }
     ensures { result ≡ bad_byte block.now op n i }
 {
-    let k = past(92, i) % 6;
+    let k = i.saturating_sub(92) % 6;
     if k == 0 {
-        return (op == 0) | (10 < op);
+        op == 0 || 10 < op
+    } else {
+        bad_field(
+            field(op, k - 1),
+            n,
+            number(block, i),
+            word(block, i) as usize,
+        )
     }
-    bad_field(field(op, k - 1), n, number(block, i), word(block, i))
 }
 
 // Code 6: used instructions.
@@ -158,10 +156,10 @@ fn bad6(block: &[u8], i: usize) -> bool
     requires { i < 510 }
     ensures { result ≡ is_bad6 block.now i }
 {
-    let p = past(92, i) / 72;
-    let op = number(block, past(past(92, i) % 6, i));
+    let p = i.saturating_sub(92) / 72;
+    let op = number(block, i.saturating_sub(i.saturating_sub(92) % 6));
     within(92, 380, i)
-        & used(block, p, past(92, i) % 72 / 6)
+        & used(block, p, i.saturating_sub(92) % 72 / 6)
         & bad_byte(block, op, number(block, 4 + p), i)
 }
 
@@ -170,7 +168,11 @@ fn bad7(block: &[u8], i: usize) -> bool
     requires { i < 510 }
     ensures { result ≡ is_bad7 block.now i }
 {
-    let used = used(block, past(92, i) / 72, past(92, i) % 72 / 6);
+    let used = used(
+        block,
+        i.saturating_sub(92) / 72,
+        i.saturating_sub(92) % 72 / 6,
+    );
     ((within(92, 380, i) & !used) | within(380, 510, i)) & marked(block, i)
 }
 
@@ -180,7 +182,9 @@ fn assigns_at(block: &[u8], p: usize, n: usize, r: usize) -> bool
     ensures { result ≡ assigns_at block.now p n r }
 {
     let at = 72 * p + 6 * n;
-    used(block, p, n) & (field(number(block, 92 + at), 0) == 1) & (number(block, 93 + at) == r)
+    used(block, p, n)
+        & (field(number(block, 92 + at), 0) == FieldKind::Assigned)
+        & (number(block, 93 + at) == r)
 }
 
 // Register r of processor p is set: by a preset, or by a used instruction of the processor.
@@ -190,10 +194,8 @@ fn is_set(block: &[u8], p: usize, r: usize) -> bool
 {
     let mask = number(block, 8 + p) as u64;
     let mut set = words::has(mask, r);
-    let mut n: usize = 0;
-    while n < 12 {
-        set = set | assigns_at(block, p, n, r);
-        n += 1;
+    for n in 0..12 {
+        set |= assigns_at(block, p, n, r);
     }
     set
 }
@@ -202,11 +204,8 @@ fn is_set(block: &[u8], p: usize, r: usize) -> bool
 fn reads_at(op: usize, i: usize) -> bool
     ensures { result ≡ reads_at op i }
 {
-    let k = past(92, i) % 6;
-    if k == 0 {
-        return false;
-    }
-    field(op, k - 1) == 2
+    let k = i.saturating_sub(92) % 6;
+    k != 0 && field(op, k - 1) == FieldKind::Read
 }
 
 // Code 19: registers that are read and not set.
@@ -214,12 +213,12 @@ fn bad19(block: &[u8], i: usize) -> bool
     requires { i < 510 }
     ensures { result ≡ is_bad19 block.now i }
 {
-    let p = past(92, i) / 72;
-    let op = number(block, past(past(92, i) % 6, i));
-    if within(92, 380, i) & used(block, p, past(92, i) % 72 / 6) & reads_at(op, i) {
-        return !is_set(block, p, number(block, i));
-    }
-    false
+    let p = i.saturating_sub(92) / 72;
+    let op = number(block, i.saturating_sub(i.saturating_sub(92) % 6));
+    let reads = within(92, 380, i)
+        & used(block, p, i.saturating_sub(92) % 72 / 6)
+        & reads_at(op, i);
+    reads && !is_set(block, p, number(block, i))
 }
 
 // Position i is bad for a code.
@@ -269,14 +268,12 @@ fn next_marked(block: &[u8], from: usize, end: usize) -> usize
     requires { Within from end }
     ensures { Skipped (is_marked block.now) from result }
 {
-    let mut i = from;
-    while i < end {
+    for i in from..end {
         if marked(block, i) {
             return i;
         }
-        i += 1;
     }
-    i
+    from.max(end)
 }
 
 // The position i where a used instruction stands, or else where the next processor's instructions start.
@@ -284,14 +281,12 @@ fn next_used(block: &[u8], i: usize) -> usize
     requires { i ≤ 510 }
     ensures { Skipped (in_use block.now) i result }
 {
-    if 380 <= i {
-        return i;
+    let n = i.saturating_sub(92);
+    if i < 380 && !used(block, n / 72, n % 72 / 6) {
+        164 + n / 72 * 72
+    } else {
+        i
     }
-    let n = past(92, i);
-    if used(block, n / 72, n % 72 / 6) {
-        return i;
-    }
-    164 + n / 72 * 72
 }
 
 // The position i, or a later one with none before it that is bad for a code; `end` is where the code's positions end.
@@ -300,45 +295,36 @@ fn skip(block: &[u8], code: u8, i: usize, end: usize) -> usize
     ensures { Skipped (is_bad block.now code) i result }
 {
     match code {
-        5 => next_marked(block, i, end),
-        6 => next_used(block, i),
-        7 => next_marked(block, i, end),
-        19 => next_used(block, i),
+        5 | 7 => next_marked(block, i, end),
+        6 | 19 => next_used(block, i),
         _ => i,
     }
 }
 
-// The lowest position that is bad for a code, 510 where none is.
-fn lowest(block: &[u8], code: u8) -> usize
+// The lowest position that is bad for a code, if there is one.
+fn lowest(block: &[u8], code: u8) -> Option<usize>
     requires { 3 ≤ code }
-    ensures { result ≡ lowest_of 510 (is_bad block.now code) }
+    ensures { (unwrap_or result 510 ≡ lowest_of 510 (is_bad block.now code)) × IfSome result (λ i. i < 510) }
 {
     let end = end_of(code);
     let mut i = skip(block, code, start_of(code), end);
     while i < end {
         if bad(block, code, i) {
-            return i;
+            return Some(i);
         }
         i = skip(block, code, i + 1, end);
     }
-    510
+    None
 }
 
 // The first of codes 3 to 7 and 19 with a bad position, and its lowest.
 pub fn judge(block: &[u8]) -> Fault
     ensures { result ≡ fault_of block.now (first_code_of (faults block.now)) }
 {
-    let mut code: u8 = 3;
-    while code < 8 {
-        let position = lowest(block, code);
-        if position < 510 {
+    for code in [3, 4, 5, 6, 7, 19] {
+        if let Some(position) = lowest(block, code) {
             return Fault { code, position };
         }
-        code += 1;
-    }
-    let position = lowest(block, 19);
-    if position < 510 {
-        return Fault { code: 19, position };
     }
     Fault {
         code: 0,

@@ -51,6 +51,7 @@ pub struct Case {
 }
 
 // What reading a block answers: the code, its position, whether an accepted block has a usual bound, which is dropped, and the case.
+// Numbers and no Result: `read_of` of specs/Block.antt is such a record, and the exports hand its numbers to C.
 #[derive(Clone, Copy)]
 pub struct CaseRead {
     pub code: u8,
@@ -60,6 +61,7 @@ pub struct CaseRead {
 }
 
 // A code of a block with the lowest position that is bad for it; codes 1 and 2, and 0 where there is none, have position 0.
+// Numbers and no Option: `seal_fault` and `write_fault` of specs/Block.antt are such records, and the exports hand them to C.
 #[derive(Clone, Copy)]
 pub struct Fault {
     pub code: u8,
@@ -70,20 +72,21 @@ pub struct Fault {
 pub fn read_case(block: &[u8]) -> CaseRead
     ensures { result ≡ read_of block.now }
 {
-    let fault = reading::refusal(block);
-    if fault.code != 0 {
-        return CaseRead {
-            code: fault.code,
-            position: fault.position,
+    let Fault { code, position } = reading::refusal(block);
+    if code == 0 {
+        CaseRead {
+            code: 0,
+            position: 0,
+            usual: reading::usual(block),
+            case: reading::case_of(block),
+        }
+    } else {
+        CaseRead {
+            code,
+            position,
             usual: false,
             case: reading::nothing(),
-        };
-    }
-    CaseRead {
-        code: 0,
-        position: 0,
-        usual: reading::usual(block),
-        case: reading::case_of(block),
+        }
     }
 }
 
@@ -111,13 +114,14 @@ pub fn seal(block: &mut [u8]) -> Fault
 pub fn write_case(case: Case, block: &mut [u8]) -> Fault
     ensures { (result ≡ write_fault case (length block.old)) × (block.new ≡ written case (length block.old)) }
 {
-    if block.len() != 512 {
+    if block.len() == 512 {
+        writing::fill(&case, block);
+        seal(block)
+    } else {
         writing::clear(block, 0);
-        return Fault {
+        Fault {
             code: 1,
             position: 0,
-        };
+        }
     }
-    writing::fill(case, block);
-    seal(block)
 }

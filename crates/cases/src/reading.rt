@@ -14,18 +14,18 @@ pub fn refusal(block: &[u8]) -> Fault
     ensures { result ≡ fault_of block.now (first_code_of (refusals block.now)) }
 {
     if block.len() != 512 {
-        return Fault {
+        Fault {
             code: 1,
             position: 0,
-        };
-    }
-    if word(block, 510) != check(block) {
-        return Fault {
+        }
+    } else if word(block, 510) as usize != check(block) {
+        Fault {
             code: 2,
             position: 0,
-        };
+        }
+    } else {
+        judge(block)
     }
-    judge(block)
 }
 
 // The instruction of an op and its fields.
@@ -53,14 +53,13 @@ fn slot(block: &[u8], n: usize) -> Slot
     ensures { result ≡ slot_at block.now n }
 {
     let i = 92 + 6 * n;
-    let k = word(block, i + 4) as u16;
     Slot {
         instr: instr_of(
             words::byte(block, i),
             words::byte(block, i + 1),
             words::byte(block, i + 2),
             words::byte(block, i + 3),
-            k,
+            word(block, i + 4),
         ),
     }
 }
@@ -69,10 +68,9 @@ fn slot(block: &[u8], n: usize) -> Slot
 fn no_code() -> [Slot; 48]
     ensures { result ≡ replicate 48 (record { instr = Instr.Empty }) }
 {
-    let empty = Slot {
+    [Slot {
         instr: Instr::Empty,
-    };
-    [empty; 48]
+    }; 48]
 }
 
 // The instructions in all slots.
@@ -80,25 +78,22 @@ fn read_code(block: &[u8]) -> [Slot; 48]
     ensures { result ≡ each 48 (slot_at block.now) }
 {
     let mut code = no_code();
-    let mut n: usize = 0;
-    while n < 48 {
-        let s = slot(block, n);
-        code[n] = s;
-        n += 1;
+    for n in 0..48 {
+        code[n] = slot(block, n);
     }
     code
 }
 
-// Fills words with the two-byte numbers that stand one after the other from a position on.
-fn read_words(block: &[u8], at: usize, words: &mut [u16])
-    requires { at + 2 * length words.old ≤ 510 }
-    ensures { words.new ≡ each (length words.old) (λ (n : ℕ). word_of block.now (at + 2 * n)) }
+// The two-byte numbers that stand one after the other from a position on.
+fn read_words<const N: usize>(block: &[u8], at: usize) -> [u16; N]
+    requires { at + 2 * N ≤ 510 }
+    ensures { result ≡ each N (λ (n : ℕ). word_of block.now (at + 2 * n)) }
 {
-    let mut n: usize = 0;
-    while n < words.len() {
-        words[n] = word(block, at + 2 * n) as u16;
-        n += 1;
+    let mut words = [0; N];
+    for n in 0..N {
+        words[n] = word(block, at + 2 * n);
     }
+    words
 }
 
 // The four bytes from a position on.
@@ -106,36 +101,27 @@ fn read_four(block: &[u8], at: usize) -> [u8; 4]
     requires { at < 510 }
     ensures { result ≡ each 4 (λ (p : ℕ). byte_of block.now (at + p)) }
 {
-    [
-        words::byte(block, at),
-        words::byte(block, at + 1),
-        words::byte(block, at + 2),
-        words::byte(block, at + 3),
-    ]
+    std::array::from_fn(|p| words::byte(block, at + p))
 }
 
 // Whether there is a usual bound.
 pub fn usual(block: &[u8]) -> bool
     ensures { result ≡ marked block.now 2 }
 {
-    !(words::byte(block, 2) == 0)
+    words::byte(block, 2) != 0
 }
 
 // The case that the block holds.
 pub fn case_of(block: &[u8]) -> Case
     ensures { result ≡ case_of block.now }
 {
-    let mut presets = [0u16; 32];
-    read_words(block, 12, &mut presets);
-    let mut memory = [0u16; 8];
-    read_words(block, 76, &mut memory);
     Case {
         procs: words::byte(block, 0),
         locs: words::byte(block, 1),
         counts: read_four(block, 4),
         masks: read_four(block, 8),
-        presets,
-        memory,
+        presets: read_words(block, 12),
+        memory: read_words(block, 76),
         code: read_code(block),
     }
 }

@@ -9,18 +9,12 @@ ghost use Rattle.cases.specs.Given.{PuttingWords, FilledWith};
 use crate::bytes::check;
 use crate::{Case, Expr, Instr, Slot};
 
-// A two-byte number, low byte first.
-fn two(n: u16) -> [u8; 2]
-    ensures { result ≡ two_of n }
-{
-    [(n % 256) as u8, (n / 256) as u8]
-}
-
 // The six bytes of an op, its fields and its constant.
 fn six(op: u8, d: u8, a: u8, b: u8, k: u16) -> [u8; 6]
     ensures { result ≡ six_of op d a b k }
 {
-    [op, d, a, b, (k % 256) as u8, (k / 256) as u8]
+    let [low, high] = k.to_le_bytes();
+    [op, d, a, b, low, high]
 }
 
 // The six bytes of a local instruction.
@@ -56,11 +50,7 @@ pub fn clear(block: &mut [u8], from: usize)
     requires { from ≤ length block.old }
     ensures { block.new ≡ take from block.old ++ replicate (length block.old - from) 0 }
 {
-    let mut i = from;
-    while i < block.len() {
-        block[i] = 0;
-        i += 1;
-    }
+    block[from..].fill(0);
 }
 
 // Bytes put at a position.
@@ -68,11 +58,7 @@ fn put(block: &mut [u8], at: usize, bytes: &[u8])
     requires { at + length bytes.now ≤ length block.old }
     ensures { Put block.old at bytes.now block.new }
 {
-    let mut i: usize = 0;
-    while i < bytes.len() {
-        block[at + i] = bytes[i];
-        i += 1;
-    }
+    block[at..at + bytes.len()].copy_from_slice(bytes);
 }
 
 // Words put at a position, two bytes each.
@@ -80,54 +66,40 @@ fn put_words(block: &mut [u8], at: usize, words: &[u16])
     requires { PuttingWords block.old at words.now }
     ensures { Put block.old at (concat_map two_of words.now) block.new }
 {
-    let mut i: usize = 0;
-    while i < words.len() {
-        let pair = two(words[i]);
-        put(block, at + 2 * i, &pair);
-        i += 1;
+    for i in 0..words.len() {
+        put(block, at + 2 * i, &words[i].to_le_bytes());
     }
 }
 
 // Instructions put from position 92 on, six bytes each.
-fn put_code(block: &mut [u8], code: [Slot; 48])
+fn put_code(block: &mut [u8], code: &[Slot; 48])
     requires { length block.old ≡ 512 }
-    ensures { Put block.old 92 (concat_map slot_bytes code) block.new }
+    ensures { Put block.old 92 (concat_map slot_bytes code.now) block.new }
 {
-    let mut n: usize = 0;
-    while n < 48 {
-        let s = code[n];
-        let i = s.instr;
-        let bytes = instr_bytes(i);
-        put(block, 92 + 6 * n, &bytes);
-        n += 1;
+    for n in 0..48 {
+        put(block, 92 + 6 * n, &instr_bytes(code[n].instr));
     }
 }
 
 // Bytes 0 to 11 of the block that holds a case.
-fn put_head(case: Case, block: &mut [u8])
+fn put_head(case: &Case, block: &mut [u8])
     requires { length block.old ≡ 512 }
-    ensures { Put block.old 0 (take 12 (contents case)) block.new }
+    ensures { Put block.old 0 (take 12 (contents case.now)) block.new }
 {
-    let head = [case.procs, case.locs, 0, 0];
-    put(block, 0, &head);
-    let counts = case.counts;
-    put(block, 4, &counts);
-    let masks = case.masks;
-    put(block, 8, &masks);
+    put(block, 0, &[case.procs, case.locs, 0, 0]);
+    put(block, 4, &case.counts);
+    put(block, 8, &case.masks);
 }
 
 // Bytes 0 to 509 of the block that holds a case.
-pub fn fill(case: Case, block: &mut [u8])
+pub fn fill(case: &Case, block: &mut [u8])
     requires { length block.old ≡ 512 }
-    ensures { FilledWith case block.new }
+    ensures { FilledWith case.now block.new }
 {
     put_head(case, block);
-    let presets = case.presets;
-    put_words(block, 12, &presets);
-    let memory = case.memory;
-    put_words(block, 76, &memory);
-    let code = case.code;
-    put_code(block, code);
+    put_words(block, 12, &case.presets);
+    put_words(block, 76, &case.memory);
+    put_code(block, &case.code);
     clear(block, 380);
 }
 
@@ -138,6 +110,5 @@ pub fn sign(block: &mut [u8])
 {
     block[2] = 0;
     let sum = check(block) as u16;
-    let pair = two(sum);
-    put(block, 510, &pair);
+    put(block, 510, &sum.to_le_bytes());
 }

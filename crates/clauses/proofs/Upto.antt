@@ -1,6 +1,7 @@
 -- The clauses of a list, one after the other.
 --     (no_clause, of the specs, is what stands past the end of a list)
 --     none_yet, one_more, all_of       the first 0 clauses, one more, and all
+--     fails_at                         a list with a clause that does not hold
 --     named        each clause of a list whose clauses all name what there is does
 use mathlib.Core.Path.{◌≡◌, refl, sym, ap, ◌∙◌}
 use Prim.Native.Nat.{ℕ, zero, suc, ◌+◌, ◌<◌}
@@ -25,6 +26,10 @@ and_true : (a : Bool) → (a && true) ≡ a
 and_true true = refl
 and_true false = refl
 
+and_false : (a : Bool) → (a && false) ≡ false
+and_false true = refl
+and_false false = refl
+
 and_assoc : (a b c : Bool) → ((a && b) && c) ≡ (a && (b && c))
 and_assoc true b c = refl
 and_assoc false b c = refl
@@ -37,6 +42,13 @@ next (c ∷ cs) o (suc i) l = and_assoc (holds_in c o) (meets_all (take i cs) o)
 
 pub one_more : (cs : List Clause) (o : List ℕ) (i : ℕ) → i < length cs → (meets_all (take i cs) o && holds_in (get_or cs i no_clause) o) ≡ meets_all (take (i + 1) cs) o
 one_more cs o i l = next cs o i l ∙ ap (λ (k : ℕ). meets_all (take k cs) o) (sym (add-one i))
+
+-- one that does not hold
+pub fails_at : (cs : List Clause) (o : List ℕ) (i : ℕ) → i < length cs → holds_in (get_or cs i no_clause) o ≡ false → false ≡ meets_all cs o
+unfolding meets_all
+fails_at [] o i l h = absurd (not-suc-le-zero l)
+fails_at (c ∷ cs) o zero l h = sym (ap (λ (z : Bool). z && meets_all cs o) h)
+fails_at (c ∷ cs) o (suc i) l h = sym (and_false (holds_in c o)) ∙ ap (λ (z : Bool). holds_in c o && z) (fails_at cs o i (le_of_suc-le-suc l) h)
 
 take_all : (cs : List Clause) → take (length cs) cs ≡ cs
 take_all [] = refl

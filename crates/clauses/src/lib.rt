@@ -1,4 +1,4 @@
-// Clauses over an outcome. The caller owns a short list of records and lends it. `and_holds` does the work on one clause by value;
+// Clauses over an outcome. The caller owns a short list of records and lends it. `holds` does the work on one clause;
 // `meets` reads the lent slice, one clause after the other.
 #![tactic(auto)]
 
@@ -18,49 +18,33 @@ pub struct Clause {
 fn spells(high: u8, low: u8, v: u16) -> bool
     ensures { result ≡ eqb (256 * high + low) v }
 {
-    256 * (high as usize) + (low as usize) == v as usize
+    u16::from_be_bytes([high, low]) == v
 }
 
 // Whether one clause holds of an outcome.
-fn holds(c: Clause, outcome: &[u8]) -> bool
-    requires { (length outcome.now ≡ 96) × Named c }
-    ensures { result ≡ holds_in c outcome.now }
+fn holds(c: &Clause, outcome: &[u8]) -> bool
+    requires { (length outcome.now ≡ 96) × Named c.now }
+    ensures { result ≡ holds_in c.now outcome.now }
 {
-    let p = c.processor;
-    let k = c.register;
-    let at = 24 * (p as usize) + 3 * (k as usize);
-    let mark = outcome[at];
+    let at = 24 * (c.processor as usize) + 3 * (c.register as usize);
     if c.defined {
-        if mark == 1 {
-            spells(outcome[at + 1], outcome[at + 2], c.value)
-        } else {
-            false
-        }
+        outcome[at] == 1 && spells(outcome[at + 1], outcome[at + 2], c.value)
     } else {
-        mark == 0
+        outcome[at] == 0
     }
-}
-
-// What a turn of `meets` computes.
-fn and_holds(met: bool, c: Clause, outcome: &[u8]) -> bool
-    requires { (length outcome.now ≡ 96) × Named c }
-    ensures { result ≡ (met && holds_in c outcome.now) }
-{
-    if met { holds(c, outcome) } else { false }
 }
 
 // Whether every clause of the lent slice holds of the outcome.
-fn meets<'c, 'o>(clauses: &'c [Clause], outcome: &'o [u8]) -> bool
+fn meets(clauses: &[Clause], outcome: &[u8]) -> bool
     requires { (length outcome.now ≡ 96) × AllNamed clauses.now }
     ensures { result ≡ meets_all clauses.now outcome.now }
 {
-    let mut met = true;
-    let mut i = 0;
-    while i < clauses.len() {
-        met = and_holds(met, clauses[i], outcome);
-        i += 1;
+    for c in clauses {
+        if !holds(c, outcome) {
+            return false;
+        }
     }
-    met
+    true
 }
 
 // Up to 8 clauses by value, as a search holds them.
@@ -70,22 +54,12 @@ pub struct Asked {
     pub count: usize,
 }
 
-// The same where the clauses are held by value: it lends the first n of them.
-fn meets_first(cs: [Clause; 8], n: usize, outcome: &[u8]) -> bool
-    requires { (length outcome.now ≡ 96) × (n ≤ 8) × AllNamed (take n cs) }
-    ensures { result ≡ meets_all (take n cs) outcome.now }
-{
-    meets(&cs[0..n], outcome)
-}
-
-// The same of clauses that are held in one record.
+// The same of clauses that are held in one record: it lends those that count.
 pub fn asked_meets(a: Asked, outcome: &[u8]) -> bool
     requires { (length outcome.now ≡ 96) × Askable a }
     ensures { result ≡ wanted a outcome.now }
 {
-    let cs = a.clauses;
-    let n = a.count;
-    meets_first(cs, n, outcome)
+    meets(&a.clauses[..a.count], outcome)
 }
 
 // One clause more; those past the eighth are only counted.
@@ -95,11 +69,9 @@ pub fn with_clause(a: Asked, c: Clause) -> Asked
     ensures { result ≡ with_clause a c }
 {
     let mut b = a;
-    let n = a.count;
-    b.count = n + 1;
-    if n < 8 {
-        b.clauses[n] = c;
-        return b;
+    b.count = a.count + 1;
+    if a.count < 8 {
+        b.clauses[a.count] = c;
     }
     b
 }

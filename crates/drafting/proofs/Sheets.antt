@@ -1,37 +1,32 @@
 -- A sheet shows its draft after each accepted line. Assumes nothing.
 use mathlib.Core.Path.{◌≡◌, refl, ap, sym, ◌∙◌, subst}
 use mathlib.Core.Logic.{⊎_elim}
-use mathlib.Core.Bool.{Bool, true, false, ◌&&◌, ◌||◌, cond, false≢true}
+use mathlib.Core.Bool.{Bool, true, false, ◌||◌, cond}
 use mathlib.Core.List.{List}
 use mathlib.Core.Option.{Option, none, some}
+use Rattle.std.specs.Prelude.{Some}
 use Prim.Native.Nat.{ℕ, zero, suc, ◌+◌, ◌*◌, ◌-◌, ◌^◌, ◌<◌, ◌≤◌, max}
 use native.Mathlib.Omega.{arith}
 use native.Mathlib.Numerals.{add-one}
 use lib.Dec.{eqb, ltb, leb}
-use lib.ListN.{get_or, set, replicate, length-set}
+use lib.ListN.{get_or, set, length-set}
 use lib.Seq.{get_or-set_same, get_or-set_other}
-use borrow.Author.Tests.{eqb-true, eqb-false, ltb-true, leb-true, lt-ltb, le-leb}
+use borrow.Author.Tests.{eqb-true, eqb-false, lt-ltb, le-leb}
 use Rattle.words.specs.Small.{each, put, or_zero}
 use Rattle.words.proofs.Bools.{decide, cond-true, cond-false, put_same, put_other}
 use Rattle.words.proofs.Lists.{each_is, each_at, each_length, each_same}
 use Rattle.cases.specs.declared.Instr.{Instr}
 use Rattle.cases.specs.declared.Instr.TheVariants.{Empty}
 use Rattle.cases.specs.declared.Slot.{Slot}
-use Rattle.judging.specs.Draft.{Draft, with_mem, with_reg, with_op, mem_ok, reg_ok, op_ok, from, label_of, low_instr, mask_of, marks, step, begin, fresh, head_ok}
-use Rattle.judging.specs.Parse.{onward}
-use Rattle.texts.specs.Lines.{Line, op}
-use Rattle.drafting.specs.Sheet.{Shows, Outcome, Holds}
+use Rattle.judging.specs.Draft.{Draft, with_reg, with_op, reg_ok, op_ok, from, label_of, low_instr, mask_of, marks, step}
+use Rattle.texts.specs.Lines.{op}
+use Rattle.drafting.specs.Sheet.{Shows, Holds}
 use Rattle.drafting.specs.declared.Sheet.{Sheet}
-use Rattle.drafting.specs.declared.Stepped.{Stepped}
 use Rattle.judging.proofs.Finished.{mask_small}
-use Rattle.judging.proofs.Small.{and4, and5, make4, make5, same?, put_case}
+use Rattle.judging.proofs.Small.{make4, make5, same?, put_case}
 
-pub refused_by : (t : Bool) (e : Draft) (r : Stepped) → r.ok ≡ false → (t ≡ true → ⊥) → Outcome r (cond t (some e) none)
-refused_by true e r q h = absurd (h refl)
-refused_by false e r q h = q
-
-pub accepted_by : (t : Bool) (e : Draft) (r : Stepped) → r.ok ≡ true → t ≡ true → Shows r.sheet e → Outcome r (cond t (some e) none)
-accepted_by t e r q h s = subst (λ (o : Option Draft). Outcome r o) (sym (cond-true t (some e) none h)) (q, s)
+pub accepted_by : (t : Bool) (e : Draft) (s : Sheet) → t ≡ true → Shows s e → Holds (Some s) (cond t (some e) none)
+accepted_by t e s h q = subst (λ (o : Option Draft). Holds (Some s) o) (sym (cond-true t (some e) none h)) q
 
 -- a store in a list that is made of a function
 pub each_set : {A : Type 0} (d : A) (f : ℕ → A) (n i : ℕ) (v : A) → i < n → set (each n f) i v ≡ each n (put f i v)
@@ -42,40 +37,8 @@ each_set d f n i v h =
     (λ e. get_or-set_other (each n f) i j v d e ∙ each_at f n j d b ∙ sym (put_other f i j v e))
     (same? j i))
 
-module _ (d : Draft) where
-  pub mem_facts : (l v : ℕ) → mem_ok d l v ≡ true → (d.next ≤ l) × (l < d.locs) × (0 < v)
-  mem_facts l v h = let r = and4 (leb d.next l) (ltb l d.locs) (ltb 0 v) (ltb v 65536) h in (leb-true d.next l r.0, ltb-true l d.locs r.1, ltb-true 0 v r.2)
-
-  pub mem_ok_lem : (l v : ℕ) → d.next ≤ l → l < d.locs → 0 < v → v < 65536 → mem_ok d l v ≡ true
-  mem_ok_lem l v a b x y = make4 (leb d.next l) (ltb l d.locs) (ltb 0 v) (ltb v 65536) (le-leb d.next l a) (lt-ltb l d.locs b) (lt-ltb 0 v x) (lt-ltb v 65536 y)
-
-  pub reg_facts : (p k v : ℕ) → reg_ok d p k v ≡ true → (d.next ≤ 8 + (8 * p + k)) × (p < d.procs) × (k < 8)
-  reg_facts p k v h = let r = and4 (leb d.next (8 + (8 * p + k))) (ltb p d.procs) (ltb k 8) (ltb v 65536) h in (leb-true d.next (8 + (8 * p + k)) r.0, ltb-true p d.procs r.1, ltb-true k 8 r.2)
-
-  pub reg_ok_lem : (p k v : ℕ) → d.next ≤ 8 + (8 * p + k) → p < d.procs → k < 8 → v < 65536 → reg_ok d p k v ≡ true
-  reg_ok_lem p k v a b x y = make4 (leb d.next (8 + (8 * p + k))) (ltb p d.procs) (ltb k 8) (ltb v 65536) (le-leb d.next (8 + (8 * p + k)) a) (lt-ltb p d.procs b) (lt-ltb k 8 x) (lt-ltb v 65536 y)
-
-  pub op_facts : (p i : ℕ) (x : Instr) → op_ok d p i x ≡ true → (p < d.procs) × (i < 12) × (low_instr x ≡ true) × (label_of x ≤ 12) × ((ltb 0 i || leb d.need d.next) ≡ true)
-  op_facts p i x h = let r = and5 (ltb p d.procs) (ltb i 12) (low_instr x) (leb (label_of x) 12) (ltb 0 i || leb d.need d.next) h in (ltb-true p d.procs r.0, ltb-true i 12 r.1, r.2, leb-true (label_of x) 12 r.3, r.4)
-
--- a memory word
-pub shows_mem : (s : Sheet) (l v : ℕ) (d : Draft) → l < 8 → s.next ≤ l → Shows s d → Shows (record { procs = s.procs; locs = s.locs; dropped = s.dropped; next = l + 1; need = s.need; counts = s.counts; masks = s.masks; presets = s.presets; memory = set s.memory l v; code = s.code }) (with_mem d l v)
-shows_mem s l v d h n sh =
-    record {
-      procs = sh.procs;
-      locs = sh.locs;
-      dropped = sh.dropped;
-      next = add-one l;
-      need = sh.need;
-      counts = sh.counts;
-      masks = sh.masks;
-      presets = sh.presets;
-      memory = ap (λ (m : List ℕ). set m l v) sh.memory ∙ each_set 0 d.words 8 l v h;
-      code = sh.code;
-      few = sh.few;
-      small = sh.small;
-      free = λ k b. sh.free k (omega (arith, sh.next));
-    }
+pub reg_ok_lem : (d : Draft) (p k v : ℕ) → d.next ≤ 8 + (8 * p + k) → p < d.procs → k < 8 → v < 65536 → reg_ok d p k v ≡ true
+reg_ok_lem d p k v a b x y = make4 (leb d.next (8 + (8 * p + k))) (ltb p d.procs) (ltb k 8) (ltb v 65536) (le-leb d.next (8 + (8 * p + k)) a) (lt-ltb p d.procs b) (lt-ltb k 8 x) (lt-ltb v 65536 y)
 
 -- an instruction
 pub shows_op : (s : Sheet) (p i n : ℕ) (x : Instr) (d : Draft) → p < 4 → i < 12 → i ≡ d.next - from p → n ≡ max s.need (from p + label_of x) → Shows s d → Shows (record { procs = s.procs; locs = s.locs; dropped = s.dropped; next = from p + i + 1; need = n; counts = set s.counts p (i + 1); masks = s.masks; presets = s.presets; memory = s.memory; code = set s.code (12 * p + i) (record { instr = x }) }) (with_op d p i x)
@@ -171,44 +134,8 @@ shows_reg s p k v m d hp hk n em sh =
         go true = refl
         go false = refl
 
-pub pow_small : (k : ℕ) → k < 8 → 2 ^ k ≤ 128
-pow_small zero h = omega arith
-pow_small (suc zero) h = omega arith
-pow_small (suc (suc zero)) h = omega arith
-pow_small (suc (suc (suc zero))) h = omega arith
-pow_small (suc (suc (suc (suc zero)))) h = omega arith
-pow_small (suc (suc (suc (suc (suc zero))))) h = omega arith
-pow_small (suc (suc (suc (suc (suc (suc zero)))))) h = omega arith
-pow_small (suc (suc (suc (suc (suc (suc (suc zero))))))) h = omega arith
-pow_small (suc (suc (suc (suc (suc (suc (suc (suc k)))))))) h = absurd (omega arith)
-
-pub clash : (a b : Bool) → a ≡ b → a ≡ false → b ≡ true → ⊥
-clash a b p q r = false≢true (sym q ∙ p ∙ r)
-
 pub op_ok_lem : (d : Draft) (p i : ℕ) (x : Instr) → p < d.procs → i < 12 → low_instr x ≡ true → label_of x ≤ 12 → (ltb 0 i || leb d.need d.next) ≡ true → op_ok d p i x ≡ true
 op_ok_lem d p i x a b e f g = make5 (ltb p d.procs) (ltb i 12) (low_instr x) (leb (label_of x) 12) (ltb 0 i || leb d.need d.next) (lt-ltb p d.procs a) (lt-ltb i 12 b) e (le-leb (label_of x) 12 f) g
 
-pub open_same : (s : Sheet) (d : Draft) (i : ℕ) → Shows s d → (ltb 0 i || leb s.need s.next) ≡ (ltb 0 i || leb d.need d.next)
-open_same s d i sh = λ t. ltb 0 i || leb (sh.need t) (sh.next t)
-
-pub op_accepted : (r : Stepped) (d : Draft) (p i : ℕ) (x : Instr) → i ≡ d.next - from p → r.ok ≡ true → op_ok d p i x ≡ true → Shows r.sheet (with_op d p i x) → Outcome r (step d (op p x))
-op_accepted r d p i x e q h sh = subst (λ (i : ℕ). Outcome r (cond (op_ok d p i x) (some (with_op d p i x)) none)) e (accepted_by (op_ok d p i x) (with_op d p i x) r q h sh)
-
--- the first line
-pub shows_fresh : (p m b : ℕ) (o : Option ℕ) (code : List Slot) → or_zero o ≡ b → code ≡ replicate 48 (record { instr = Empty }) → p ≤ 4 → m ≤ 8 → Shows (record { procs = p; locs = m; dropped = b; next = 0; need = 0; counts = replicate 4 0; masks = replicate 4 0; presets = replicate 32 0; memory = replicate 8 0; code = code }) (fresh p m o)
-shows_fresh p m b o code e q hp hm = record { procs = refl; locs = refl; dropped = sym e; next = refl; need = refl; counts = refl; masks = refl; presets = refl; memory = refl; code = q; few = hp; small = hm; free = λ n h. refl }
-
-pub head_limits : (p m b : ℕ) → (ltb 0 p && ltb p 5 && ltb 0 m && ltb m 9 && leb b 96) ≡ true → (p ≤ 4) × (m ≤ 8)
-head_limits p m b h = let r = and5 (ltb 0 p) (ltb p 5) (ltb 0 m) (ltb m 9) (leb b 96) h in (omega (arith, ltb-true p 5 r.1), omega (arith, ltb-true m 9 r.3))
-
-pub head_as : (p m b : ℕ) (o : Option ℕ) → or_zero o ≡ b → (ltb 0 p && ltb p 5 && ltb 0 m && ltb m 9 && leb b 96) ≡ head_ok p m o
-head_as p m b o e = λ t. ltb 0 p && ltb p 5 && ltb 0 m && ltb m 9 && leb (sym e t) 96
-
--- the first line or a further one
-pub onward_further : (r : Stepped) (g : Bool) (s : Sheet) (l : Line) → g ≡ true → ((d : Draft) → Shows s d → Outcome r (step d l)) → (o : Option Draft) → Holds g s o → Outcome r (onward o l)
-onward_further r g s l t f none h = absurd (false≢true (sym h ∙ t))
-onward_further r g s l t f (some d) h = f d h.1
-
-pub onward_first : (r : Stepped) (g : Bool) (s : Sheet) (l : Line) → g ≡ false → Outcome r (begin l) → (o : Option Draft) → Holds g s o → Outcome r (onward o l)
-onward_first r g s l t f none h = f
-onward_first r g s l t f (some d) h = absurd (false≢true (sym t ∙ h.0))
+pub op_accepted : (s : Sheet) (d : Draft) (p i : ℕ) (x : Instr) → i ≡ d.next - from p → op_ok d p i x ≡ true → Shows s (with_op d p i x) → Holds (Some s) (step d (op p x))
+op_accepted s d p i x e h sh = subst (λ (i : ℕ). Holds (Some s) (cond (op_ok d p i x) (some (with_op d p i x)) none)) e (accepted_by (op_ok d p i x) (with_op d p i x) s h sh)

@@ -1,10 +1,9 @@
 -- The reader's record of a case in the making, against the draft that it shows. Assumes nothing.
-use Rattle.std.specs.Prelude.{◌≡◌, Bool, true, false, ℕ, ◌+◌, ◌*◌, ◌≤◌}
-use Rattle.std.proofs.Math.Option.{Option, none, some}
+use Rattle.std.specs.Prelude.{◌≡◌, ⊤, Option, Some, None, ℕ, ◌+◌, ◌*◌, ◌≤◌}
+use Rattle.std.proofs.Math.Option as maybe
 use Rattle.words.specs.Small.{each, or_zero}
 use Rattle.judging.specs.Draft.{Draft, mask_of}
 use Rattle.drafting.specs.declared.Sheet.{Sheet}
-use Rattle.drafting.specs.declared.Stepped.{Stepped}
 
 pub record Shows (s : Sheet) (d : Draft) : Type 0 where
   pub procs : s.procs ≡ d.procs
@@ -19,14 +18,11 @@ pub record Shows (s : Sheet) (d : Draft) : Type 0 where
   pub code : s.code ≡ each 48 (λ n. record { instr = d.instrs n })
   pub few : d.procs ≤ 4
   pub small : d.locs ≤ 8
-  pub free : (n : ℕ) → d.next ≤ 8 + n → d.presets n ≡ none
+  pub free : (n : ℕ) → d.next ≤ 8 + n → d.presets n ≡ maybe.none
 
--- What a further line leads to.
-abbrev pub Outcome : Stepped → Option Draft → Type 0
-Outcome r none = r.ok ≡ false
-Outcome r (some e) = (r.ok ≡ true) × Shows r.sheet e
-
--- The sheet after some lines, begun or not, and the draft of these lines.
-abbrev pub Holds : Bool → Sheet → Option Draft → Type 0
-Holds b s none = b ≡ false
-Holds b s (some d) = (b ≡ true) × Shows s d
+-- The sheet after some lines, if there is one, and the draft of these lines, if there is one.
+abbrev pub Holds : Option Sheet → maybe.Option Draft → Type 0
+Holds None maybe.none = ⊤
+Holds None (maybe.some d) = ⊥
+Holds (Some s) maybe.none = ⊥
+Holds (Some s) (maybe.some d) = Shows s d

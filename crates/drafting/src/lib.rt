@@ -20,10 +20,3 @@ pub struct Sheet {
     pub memory: [u16; 8],
     pub code: [Slot; 48],
 }
-
-// What a further line leads to.
-#[derive(Clone, Copy)]
-pub struct Stepped {
-    pub ok: bool,
-    pub sheet: Sheet,
-}

@@ -20,8 +20,7 @@ use Rattle.rules.proofs.Bytes.{bytes_length}
 use Rattle.runs.specs.Wanted.{Wish, WantedFrom, Reaches, LowestFrom}
 use Rattle.runs.specs.Asking.{Answered, IsAnswer}
 use Rattle.runs.proofs.ByteOrder.{below_first}
-use Rattle.handoffs.specs.declared.Found.{Found}
-use Rattle.handoffs.specs.Inner.{IsLow, Level, or_else}
+use Rattle.handoffs.specs.Inner.{Found, IsLow, Level, or_else}
 
 -- what is not below what is not below is not below
 pub not-below : (x y z : List ℕ) → below x y ≡ false → below y z ≡ false → below x z ≡ false

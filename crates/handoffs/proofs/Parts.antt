@@ -8,6 +8,8 @@ use native.Mathlib.Omega.{arith}
 use lib.Dec.{eqb, ltb, leb}
 use lib.ListN.{length, get_or, set, drop, replicate, get_or-eq_default}
 use borrow.Author.Tests.{ltb-true, lt-ltb, le-ltb, eqb-true, eq-eqb, ne_eqb}
+use Rattle.std.specs.Prelude.{Option, Some, None}
+use Rattle.std.specs.Option.{is_some}
 use Rattle.words.specs.Refusals.{first_code_of}
 use Rattle.words.proofs.Bools.{decide, and_both, cond-true, cond-false}
 use Rattle.cases.specs.declared.Case.{Case}
@@ -26,10 +28,9 @@ use Rattle.machine.specs.Fit.{Fit}
 use Rattle.runs.specs.Wanted.{Wish, WantedFrom}
 use Rattle.runs.specs.Asking.{Answered, IsAnswer}
 use Rattle.handoffs.specs.declared.Plan.{Plan}
-use Rattle.handoffs.specs.declared.Found.{Found}
 use Rattle.handoffs.specs.Plans.{touching, legal, fresh, locks, sends, receives, case_for, bound}
 use Rattle.handoffs.specs.Verdict.{holds, stale_in, Stale, Stuck, Safe, Handed, IsVerdict, Refused, handoff_refusals, IsHandoff}
-use Rattle.handoffs.specs.Inner.{plan_of, passing, four_at, fresh_two, fresh_three, fresh_four, no_code, receiver_code, presets_of, ready_at, touched_by, clause_of, asked_for, IsLow, Level, or_else, Improved, ImprovedTwice, stale_at, stale_any, Few, any_outcome}
+use Rattle.handoffs.specs.Inner.{Found, found_of, plan_of, passing, four_at, fresh_two, fresh_three, fresh_four, no_code, receiver_code, presets_of, ready_at, touched_by, clause_of, asked_for, IsLow, Level, or_else, Improved, ImprovedTwice, stale_at, stale_any, Few, any_outcome}
 use Rattle.handoffs.proofs.Either.{kept-none, taken_first, kept_lower, taken_lower, low_same}
 use Rattle.handoffs.specs.Given.{Short}
 use Rattle.handoffs.proofs.Shapes.{Legal, legal-parts, few_long, legal-shape, sender_code, case_shape, stale-shape}
@@ -161,6 +162,11 @@ asked_means ready other o = end (holds o ready 1) (holds o other 0)
 pub none_means : (o : List ℕ) → wanted no_clauses o ≡ true
 unfolding meets_all
 none_means o = refl
+
+-- what is found
+pub found_is : (o : Option ℕ) → (found_of o).yes ≡ is_some o
+found_is (Some n) = refl
+found_is None = refl
 
 -- one question more
 module _ {c : Case} {n : ℕ} {W : List ℕ → Bool} {best : Found} {buf : List ℕ} {a : Answered} {other : List ℕ} (ans : IsAnswer (womm c) W step_bytes n 384 a other) where

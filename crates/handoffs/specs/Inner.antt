@@ -1,5 +1,5 @@
 -- What the parts of the hand-off are given and answer. Assumes nothing.
-use Rattle.std.specs.Prelude.{◌≡◌, ◌↔◌, Bool, true, false, ◌&&◌, ◌||◌, cond, List, [], ◌∷◌, ◌++◌, ℕ, ◌+◌, ◌-◌, ◌≤◌, ◌<◌, eqb, ltb, leb, length, get_or, set, replicate}
+use Rattle.std.specs.Prelude.{◌≡◌, Option, Some, None, ◌↔◌, Bool, true, false, ◌&&◌, ◌||◌, cond, List, [], ◌∷◌, ◌++◌, ℕ, ◌+◌, ◌-◌, ◌≤◌, ◌<◌, eqb, ltb, leb, length, get_or, set, replicate}
 use Rattle.words.specs.Small.{any, concat_map}
 use Rattle.cases.specs.declared.Case.{Case}
 use Rattle.cases.specs.declared.Instr.TheVariants.{Empty}
@@ -15,10 +15,26 @@ use Rattle.rules.specs.Bytes.{step_bytes}
 use Rattle.runs.specs.Wanted.{Wish, WantedFrom, Reaches}
 use Rattle.runs.specs.Asking.{Laid}
 use Rattle.handoffs.specs.declared.Answer.{Answer}
-use Rattle.handoffs.specs.declared.Found.{Found}
+use Rattle.handoffs.specs.declared.Verdict.{Verdict}
+use Rattle.handoffs.specs.declared.Verdict.TheVariants.{Safe, Stale, Stuck}
 use Rattle.handoffs.specs.declared.Plan.{Plan}
 use Rattle.handoffs.specs.Plans.{touching, fresh, receives, constants}
-use Rattle.handoffs.specs.Verdict.{Handed, holds}
+use Rattle.handoffs.specs.Verdict.{Handed, holds, safe, stale, stuck}
+
+-- The number of a verdict.
+abbrev pub number_of : Verdict → ℕ
+number_of Safe = safe
+number_of Stale = stale
+number_of Stuck = stuck
+
+-- Whether a schedule was found, and its length in bytes.
+pub record Found : Type 0 where
+  pub yes : Bool
+  pub length : ℕ
+
+abbrev pub found_of : Option ℕ → Found
+found_of (Some n) = record { yes = true; length = n }
+found_of None = record { yes = false; length = 0 }
 
 abbrev pub handed_of : Answer → Handed
 handed_of a = record { code = a.code; verdict = a.verdict; length = a.length }

@@ -9,7 +9,7 @@ ghost use Rattle.rules.specs.Building.{slot_of};
 ghost use Rattle.runs.specs.Wanted.{WantedFrom};
 ghost use Rattle.handoffs.specs.Plans.{legal as is_legal, fresh as is_fresh, locks as lock_of, sends as send_of, receives as receive_of, case_for};
 ghost use Rattle.handoffs.specs.Verdict.{IsVerdict, Refused, IsHandoff};
-ghost use Rattle.handoffs.specs.Inner.{handed_of, plan_of, passing, four_at, no_code, receiver_code, presets_of, ready_at, touched_by, asked_for, clause_of, IsLow, Improved, ImprovedTwice, stale_at, stale_any, any_outcome};
+ghost use Rattle.handoffs.specs.Inner.{handed_of, found_of, number_of, plan_of, passing, four_at, no_code, receiver_code, presets_of, ready_at, touched_by, asked_for, clause_of, IsLow, Improved, ImprovedTwice, stale_at, stale_any, any_outcome};
 ghost use Rattle.handoffs.specs.Given.{Short, Bounded, Improving, Considering, ConsideringTwo, Comparing, Judging};
 
 use cases::{Case, Instr, Slot};
@@ -23,6 +23,14 @@ pub struct Answer {
     pub length: usize,
 }
 
+// What a hand-off can come to.
+#[derive(Clone, Copy)]
+pub enum Verdict {
+    Safe,
+    Stale,
+    Stuck,
+}
+
 // A plan by value: its length and its first four actions, 6 where there is none.
 #[derive(Clone, Copy)]
 pub struct Plan {
@@ -33,21 +41,11 @@ pub struct Plan {
     pub fourth: u8,
 }
 
-// Whether a schedule was found, and its length in bytes.
-#[derive(Clone, Copy)]
-pub struct Found {
-    pub yes: bool,
-    pub length: usize,
-}
-
 // Action i of a plan, 6 where there is none.
 fn deed(plan: &[u8], i: usize) -> u8
     ensures { result ≡ get_or plan.now i 6 }
 {
-    if i < plan.len() {
-        return plan[i];
-    }
-    6
+    if i < plan.len() { plan[i] } else { 6 }
 }
 
 fn plan_of(plan: &[u8]) -> Plan
@@ -73,32 +71,18 @@ fn four_at(p: Plan) -> bool
         & ((p.count <= 3) | (p.fourth < 6))
 }
 
-// 1 where the action reads ready, else 0.
-fn one_ready(d: u8) -> u8
-    ensures { (result ≡ cond (eqb d 3) 1 0) × (result ≤ 1) }
-{
-    if d == 3 { 1 } else { 0 }
-}
-
-// 1 where the action touches a word, else 0.
-fn one_touch(d: u8) -> u8
-    ensures { (result ≡ cond (ltb d 4) 1 0) × (result ≤ 1) }
-{
-    if d < 4 { 1 } else { 0 }
-}
-
 // How many of the four actions read ready.
 fn readies(p: Plan) -> u8
     ensures { result ≡ passing (λ d. eqb d 3) p }
 {
-    one_ready(p.first) + one_ready(p.second) + one_ready(p.third) + one_ready(p.fourth)
+    (p.first == 3) as u8 + (p.second == 3) as u8 + (p.third == 3) as u8 + (p.fourth == 3) as u8
 }
 
 // How many of the four actions touch a word.
 fn touches(p: Plan) -> u8
     ensures { result ≡ passing (λ d. ltb d 4) p }
 {
-    one_touch(p.first) + one_touch(p.second) + one_touch(p.third) + one_touch(p.fourth)
+    (p.first < 4) as u8 + (p.second < 4) as u8 + (p.third < 4) as u8 + (p.fourth < 4) as u8
 }
 
 // Whether the plans are ones.
@@ -107,11 +91,7 @@ fn legal(sending: &[u8], receiving: &[u8]) -> bool
 {
     let s = plan_of(sending);
     let r = plan_of(receiving);
-    let a = four_at(s);
-    let b = four_at(r);
-    let m = readies(r);
-    let n = touches(r);
-    a & b & (m == 1) & (n <= 3)
+    four_at(s) & four_at(r) & (readies(r) == 1) & (touches(r) <= 3)
 }
 
 // The register for a read after an action d, where k was for one at d.
@@ -126,33 +106,25 @@ fn fresh(k: u8, d: u8) -> u8
 fn locks(d: u8) -> Instr
     ensures { result ≡ lock_of d }
 {
-    if d == 4 {
-        return Instr::Acquire(4);
+    match d {
+        4 => Instr::Acquire(4),
+        5 => Instr::Release(4),
+        _ => Instr::Empty,
     }
-    if d == 5 {
-        return Instr::Release(4);
-    }
-    Instr::Empty
 }
 
 // The sender's instruction.
 fn sends(d: u8) -> Instr
     ensures { result ≡ send_of d }
 {
-    if d < 4 {
-        return Instr::Write(d, 1);
-    }
-    locks(d)
+    if d < 4 { Instr::Write(d, 1) } else { locks(d) }
 }
 
 // The receiver's instruction; a read goes to register k.
 fn receives(d: u8, k: u8) -> Instr
     ensures { result ≡ receive_of (record { byte = d; register = k }) }
 {
-    if d < 4 {
-        return Instr::Read(k, d);
-    }
-    locks(d)
+    if d < 4 { Instr::Read(k, d) } else { locks(d) }
 }
 
 // 48 empty slots.
@@ -225,12 +197,10 @@ fn case_for(sending: &[u8], receiving: &[u8]) -> Case
 {
     let s = plan_of(sending);
     let r = plan_of(receiving);
-    let m = s.count;
-    let n = r.count;
     Case {
         procs: 2,
         locs: 5,
-        counts: [m as u8, n as u8, 0, 0],
+        counts: [s.count as u8, r.count as u8, 0, 0],
         masks: [31, 31, 0, 0],
         presets: presets(),
         memory: [0; 8],
@@ -283,56 +253,57 @@ fn asked_for(ready: u8, other: u8) -> Asked
     clauses::with_clause(one, clause(other, 0))
 }
 
-// Asks for one outcome more, and keeps the lower of the two schedules.
-fn improve(c: Case, n: usize, asked: Asked, best: Found, out: &mut [u8]) -> Found
-    requires { Improving c n asked out.old }
-    ensures { Improved c (wanted asked) n best out.old result out.new }
+// Asks for one outcome more, and keeps the lower of the two schedules: its length in bytes, if there is one.
+fn improve(
+    case: &Case,
+    n: usize,
+    asked: Asked,
+    best: Option<usize>,
+    out: &mut [u8],
+) -> Option<usize>
+    requires { Improving case.now n asked out.old }
+    ensures { Improved case.now (wanted asked) n (found_of best) out.old (found_of result) out.new }
 {
     let mut other = [0u8; 384];
-    let a = asking::settle(c, n, asked, &mut other);
+    let a = asking::settle(case, n, asked, &mut other);
     if a.yes {
-        if best.yes {
+        if best.is_some() {
             if records::below(&other, out) {
                 records::write(out, &other);
-                return Found {
-                    yes: true,
-                    length: a.length,
-                };
+                return Some(a.length);
             }
             return best;
         }
         records::write(out, &other);
-        return Found {
-            yes: true,
-            length: a.length,
-        };
+        return Some(a.length);
     }
     best
 }
 
 // The same for an action d whose register is k, if it is one that can be stale.
 fn consider(
-    c: Case,
+    case: &Case,
     n: usize,
     sending: Plan,
     ready: u8,
     d: u8,
     k: u8,
-    best: Found,
+    best: Option<usize>,
     out: &mut [u8],
-) -> Found
-    requires { Considering c n ready d k out.old }
-    ensures { Improved c (stale_at sending ready d k) n best out.old result out.new }
+) -> Option<usize>
+    requires { Considering case.now n ready d k out.old }
+    ensures { Improved case.now (stale_at sending ready d k) n (found_of best) out.old (found_of result) out.new }
 {
     if touched_by(sending, d) {
-        return improve(c, n, asked_for(ready, k), best, out);
+        improve(case, n, asked_for(ready, k), best, out)
+    } else {
+        best
     }
-    best
 }
 
 // The same for two actions.
 fn consider_two(
-    c: Case,
+    case: &Case,
     n: usize,
     sending: Plan,
     ready: u8,
@@ -340,42 +311,53 @@ fn consider_two(
     k: u8,
     e: u8,
     l: u8,
-    best: Found,
+    best: Option<usize>,
     out: &mut [u8],
-) -> Found
-    requires { ConsideringTwo c n ready d k e l out.old }
-    ensures { ImprovedTwice c (stale_at sending ready d k) (stale_at sending ready e l) n best out.old result out.new }
+) -> Option<usize>
+    requires { ConsideringTwo case.now n ready d k e l out.old }
+    ensures { ImprovedTwice case.now (stale_at sending ready d k) (stale_at sending ready e l) n (found_of best) out.old (found_of result) out.new }
 {
-    let a = consider(c, n, sending, ready, d, k, best, out);
-    consider(c, n, sending, ready, e, l, a, out)
+    let a = consider(case, n, sending, ready, d, k, best, out);
+    consider(case, n, sending, ready, e, l, a, out)
 }
 
 // The lowest stale schedule of all the receiver's reads together.
-fn stalest(c: Case, n: usize, s: Plan, r: Plan, out: &mut [u8]) -> Found
-    requires { Comparing c n r out.old }
-    ensures { IsLow c (stale_any s r) n result out.new }
+fn stalest(case: &Case, n: usize, s: Plan, r: Plan, out: &mut [u8]) -> Option<usize>
+    requires { Comparing case.now n r out.old }
+    ensures { IsLow case.now (stale_any s r) n (found_of result) out.new }
 {
     records::clear(out);
-    let none = Found {
-        yes: false,
-        length: 0,
-    };
     let ready = ready_at(r);
     let two = fresh(5, r.first);
     let three = fresh(two, r.second);
     let four = fresh(three, r.third);
-    let a = consider_two(c, n, s, ready, r.first, 5, r.second, two, none, out);
-    consider_two(c, n, s, ready, r.third, three, r.fourth, four, a, out)
+    let a = consider_two(case, n, s, ready, r.first, 5, r.second, two, None, out);
+    consider_two(case, n, s, ready, r.third, three, r.fourth, four, a, out)
 }
 
 // Whether any run finishes.
-fn finishes(c: Case, n: usize) -> bool
-    requires { Bounded c n }
-    ensures { (result ≡ true) ↔ WantedFrom (womm c) any_outcome (initial c) n }
+fn finishes(case: &Case, n: usize) -> bool
+    requires { Bounded case.now n }
+    ensures { (result ≡ true) ↔ WantedFrom (womm case.now) any_outcome (initial case.now) n }
 {
     let mut other = [0u8; 384];
-    let a = asking::settle(c, n, clauses::no_clauses(), &mut other);
-    a.yes
+    asking::settle(case, n, clauses::no_clauses(), &mut other).yes
+}
+
+// The answer with a verdict and the length of its schedule.
+fn told(verdict: Verdict, length: usize) -> Answer
+    ensures { handed_of result ≡ record { code = 0; verdict = number_of verdict; length = length } }
+{
+    let number = match verdict {
+        Verdict::Safe => 0,
+        Verdict::Stale => 1,
+        Verdict::Stuck => 2,
+    };
+    Answer {
+        code: 0,
+        verdict: number,
+        length,
+    }
 }
 
 // The answer for legal plans and a buffer of 384 bytes.
@@ -383,29 +365,17 @@ fn judge(sending: &[u8], receiving: &[u8], out: &mut [u8]) -> Answer
     requires { Judging sending.now receiving.now out.old }
     ensures { IsVerdict sending.now receiving.now (handed_of result) out.new }
 {
-    let c = case_for(sending, receiving);
+    let case = case_for(sending, receiving);
     let s = plan_of(sending);
     let r = plan_of(receiving);
     let n = 2 * (s.count + r.count);
-    let f = stalest(c, n, s, r, out);
-    if f.yes {
-        return Answer {
-            code: 0,
-            verdict: 1,
-            length: f.length,
-        };
+    if let Some(length) = stalest(&case, n, s, r, out) {
+        return told(Verdict::Stale, length);
     }
-    if finishes(c, n) {
-        return Answer {
-            code: 0,
-            verdict: 0,
-            length: 0,
-        };
-    }
-    Answer {
-        code: 0,
-        verdict: 2,
-        length: 0,
+    if finishes(&case, n) {
+        told(Verdict::Safe, 0)
+    } else {
+        told(Verdict::Stuck, 0)
     }
 }
 
@@ -425,11 +395,11 @@ fn refuse(code: u8, out: &mut [u8]) -> Answer
 pub fn handoff(sending: &[u8], receiving: &[u8], out: &mut [u8]) -> Answer
     ensures { IsHandoff sending.now receiving.now (length out.old) (handed_of result) out.new }
 {
-    if legal(sending, receiving) {
-        if out.len() != 384 {
-            return refuse(13, out);
-        }
-        return judge(sending, receiving, out);
+    if !legal(sending, receiving) {
+        refuse(15, out)
+    } else if out.len() != 384 {
+        refuse(13, out)
+    } else {
+        judge(sending, receiving, out)
     }
-    refuse(15, out)
 }

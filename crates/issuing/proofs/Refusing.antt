@@ -26,32 +26,18 @@ use Rattle.issuing.proofs.Binding.{Regs, from-reads, address_test}
 abbrev pub address_refusals : ℕ → Bool → Option ℕ → List Refusal
 address_refusals locs b o = 24 when (b && is_none o) ∷ 25 when (b && leb locs (or_zero o)) ∷ []
 
-module _ (locs : ℕ) (b known : Bool) (v : ℕ) where
-  abbrev refusals : List Refusal
-  refusals = address_refusals locs b (option_of known v)
+module _ (locs : ℕ) (b : Bool) where
+  pub address_unknown : b ≡ true → 24 ≡ first_code_of (address_refusals locs b none)
+  address_unknown h = first (address_refusals locs b none) (hit (rw h refl))
 
-  pub address_unknown : b ≡ true → not known ≡ true → 24 ≡ first_code_of refusals
-  address_unknown h k = first refusals (hit (rw h (unknown known k)))
-    where
-      unknown : (known : Bool) → not known ≡ true → is_none (option_of known v) ≡ true
-      unknown true k = absurd (false≢true k)
-      unknown false k = refl
+  pub address_large : (v : ℕ) → b ≡ true → locs ≤ v → 25 ≡ first_code_of (address_refusals locs b (some v))
+  address_large v h le = first (address_refusals locs b (some v)) (miss (rw h refl) (hit (rw (h, le-leb locs v le) refl)))
 
-  known_some : not known ≡ false → option_of known v ≡ some v
-  known_some k = some_of known k
-    where
-      some_of : (known : Bool) → not known ≡ false → option_of known v ≡ some v
-      some_of true k = refl
-      some_of false k = absurd (false≢true (sym k))
+  pub address_good : (v : ℕ) → b ≡ true → v < locs → 0 ≡ first_code_of (address_refusals locs b (some v))
+  address_good v h lt = first (address_refusals locs b (some v)) (miss (rw h refl) (miss (rw (h, lt-leb locs v lt) refl) First.none))
 
-  pub address_large : b ≡ true → not known ≡ false → locs ≤ v → 25 ≡ first_code_of refusals
-  address_large h k le = first refusals (miss (rw (h, known_some k)) (hit (rw (h, known_some k) (le-leb locs v le))))
-
-  pub address_good : b ≡ true → not known ≡ false → v < locs → 0 ≡ first_code_of refusals
-  address_good h k lt = first refusals (miss (rw (h, known_some k)) (miss (rw (h, known_some k) (lt-leb locs v lt)) First.none))
-
-  pub address_free : b ≡ false → 0 ≡ first_code_of refusals
-  address_free h = first refusals (miss (rw h) (miss (rw h) First.none))
+  pub address_free : (o : Option ℕ) → b ≡ false → 0 ≡ first_code_of (address_refusals locs b o)
+  address_free o h = first (address_refusals locs b o) (miss (rw h) (miss (rw h) First.none))
 
 module _ (c : Case) (s : State) (p at : ℕ) (place : s.places p ≡ place_of at) where
   abbrev refusals_by : Option ℕ → List Refusal

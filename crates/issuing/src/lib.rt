@@ -5,7 +5,7 @@ ghost use Rattle.std.specs.Prelude.{◌≡◌, ◌&&◌, cond, List, [], ◌∷�
 ghost use Rattle.words.specs.Small.{is_none, or_zero};
 ghost use Rattle.words.specs.Refusals.{◌when◌, first_code_of};
 ghost use Rattle.cases.specs.declared.Case.{Case as TheCase};
-ghost use Rattle.rules.specs.Kinds.{kind, accesses, reads};
+ghost use Rattle.rules.specs.Kinds.{kind, accesses, syncs, reads};
 ghost use Rattle.rules.specs.State.{State, Action, value_of, stands_at};
 ghost use Rattle.rules.specs.Issue.{issue_refusals, issued as issued_of};
 ghost use Rattle.rules.specs.Step.{issue as issue_step};
@@ -13,29 +13,42 @@ ghost use Rattle.oneorder.specs.OneOrder.{has_item};
 ghost use Rattle.orders.specs.Rows.{SetOf};
 ghost use Rattle.machine.specs.Shown.{name_of, names_of, place_of, shown_value, shown_entry, shown, Presets, Acts};
 ghost use Rattle.machine.specs.Given.{Accepted, Showing};
-ghost use Rattle.machine.specs.Lent.{machine_of, Program, Lent};
+ghost use Rattle.machine.specs.Lent.{Program, Lent};
 ghost use Rattle.issuing.specs.Issued.{assigned_by, place_by, after, Bound, Ordered, KeptBy};
 ghost use Rattle.issuing.specs.Given.{Joining, Keeping, Binding, Asking, Renaming, Renamed, Issuing};
 
-use cases::{Expr, Instr};
-use machine::{Entry, Value};
+use cases::{Case, Expr, Instr};
+use machine::{Entry, Machine};
+
+// A place counter that is undefined.
+const UNDEFINED: u8 = 255;
+
+// Whether an instruction is a read or a write.
+fn accesses(i: Instr) -> bool
+    ensures { result ≡ accesses (kind i) }
+{
+    matches!(i, Instr::Read(..) | Instr::Write(..))
+}
+
+// Whether an instruction is an acquire or a release.
+fn syncs(i: Instr) -> bool
+    ensures { result ≡ syncs (kind i) }
+{
+    matches!(i, Instr::Acquire(_) | Instr::Release(_))
+}
 
 // Whether the entry has an item in the order.
 fn has_item(e: Entry) -> bool
     ensures { (c : TheCase) → result ≡ has_item (shown_entry c e) }
 {
-    let i = e.instr;
-    let k = rules::kind_of(i);
-    ((k == 6) | (k == 7)) | ((k == 1) | (k == 2))
+    syncs(e.instr) || accesses(e.instr)
 }
 
 // Whether that item is one of processor p.
 fn own(e: Entry, p: usize) -> bool
     ensures { (c : TheCase) → result ≡ (eqb (shown_entry c e).proc p && has_item (shown_entry c e)) }
 {
-    let proc = words::wide(e.proc);
-    let s = has_item(e);
-    (proc == p) & s
+    e.proc as usize == p && has_item(e)
 }
 
 // The initial writes of the locations where the entry's item stands.
@@ -43,15 +56,13 @@ fn initial_writes(e: Entry) -> u64
     requires { e.loc < 8 }
     ensures { (c : TheCase) → SetOf 8 (λ l. stands_at l (shown_entry c e)) result }
 {
-    let i = e.instr;
-    let k = rules::kind_of(i);
-    if (k == 6) | (k == 7) {
-        return 255;
+    if syncs(e.instr) {
+        255
+    } else if accesses(e.instr) {
+        words::one(e.loc as usize)
+    } else {
+        0
     }
-    if (k == 1) | (k == 2) {
-        return words::one(words::wide(e.loc));
-    }
-    0
 }
 
 // The items that a new one of processor p stands after: some initial writes, and all earlier items of p.
@@ -60,12 +71,8 @@ fn earlier(acts: &[u64; 48], issued: usize, p: usize, writes: u64) -> u64
     ensures { (c : TheCase) (s : State) (new : Action) → Acts c issued acts.now s → SetOf 8 (λ l. stands_at l new) writes → SetOf (8 + issued) (after p new s) result }
 {
     let mut items = writes;
-    let mut k: usize = 0;
-    while k < issued {
-        let e = machine::entry_at(acts, k);
-        let test = own(e, p);
-        items = orders::with(items, 8 + k, test);
-        k += 1;
+    for k in 0..issued {
+        items = orders::with(items, 8 + k, own(machine::entry_at(acts, k), p));
     }
     items
 }
@@ -86,19 +93,13 @@ pub fn first_read(i: Instr) -> u8
     ensures { result ≡ get_or (reads i) 0 0 }
 {
     match i {
-        Instr::Empty => 0,
-        Instr::Read(_, a) => a,
-        Instr::Write(a, _) => a,
-        Instr::Local(_, e) => match e {
-            Expr::Constant(_) => 0,
-            Expr::Sum(a, _) => a,
-            Expr::Difference(a, _) => a,
-            Expr::Equal(a, _) => a,
-        },
-        Instr::Branch(a, _) => a,
-        Instr::Goto(_) => 0,
-        Instr::Acquire(a) => a,
-        Instr::Release(a) => a,
+        Instr::Read(_, a)
+        | Instr::Write(a, _)
+        | Instr::Local(_, Expr::Sum(a, _) | Expr::Difference(a, _) | Expr::Equal(a, _))
+        | Instr::Branch(a, _)
+        | Instr::Acquire(a)
+        | Instr::Release(a) => a,
+        _ => 0,
     }
 }
 
@@ -107,36 +108,21 @@ pub fn second_read(i: Instr) -> u8
     ensures { result ≡ get_or (reads i) 1 0 }
 {
     match i {
-        Instr::Empty => 0,
-        Instr::Read(_, _) => 0,
-        Instr::Write(_, b) => b,
-        Instr::Local(_, e) => match e {
-            Expr::Constant(_) => 0,
-            Expr::Sum(_, b) => b,
-            Expr::Difference(_, b) => b,
-            Expr::Equal(_, b) => b,
-        },
-        Instr::Branch(_, _) => 0,
-        Instr::Goto(_) => 0,
-        Instr::Acquire(_) => 0,
-        Instr::Release(_) => 0,
+        Instr::Write(_, b)
+        | Instr::Local(_, Expr::Sum(_, b) | Expr::Difference(_, b) | Expr::Equal(_, b)) => b,
+        _ => 0,
     }
 }
 
-// The place counter after an issue; 255 is undefined.
+// The place counter after an issue.
 fn place_after(i: Instr, place: u8) -> u8
     requires { place < 12 }
     ensures { result ≡ place_by i place }
 {
     match i {
-        Instr::Empty => place + 1,
-        Instr::Read(_, _) => place + 1,
-        Instr::Write(_, _) => place + 1,
-        Instr::Local(_, _) => place + 1,
-        Instr::Branch(_, _) => 255,
+        Instr::Branch(..) => UNDEFINED,
         Instr::Goto(l) => (l % 256) as u8,
-        Instr::Acquire(_) => place + 1,
-        Instr::Release(_) => place + 1,
+        _ => place + 1,
     }
 }
 
@@ -145,14 +131,8 @@ pub fn assigned(i: Instr) -> u8
     ensures { result ≡ assigned_by i }
 {
     match i {
-        Instr::Empty => 8,
-        Instr::Read(d, _) => d,
-        Instr::Write(_, _) => 8,
-        Instr::Local(d, _) => d,
-        Instr::Branch(_, _) => 8,
-        Instr::Goto(_) => 8,
-        Instr::Acquire(_) => 8,
-        Instr::Release(_) => 8,
+        Instr::Read(d, _) | Instr::Local(d, _) => d,
+        _ => 8,
     }
 }
 
@@ -161,111 +141,69 @@ fn name_at(names: &[u8; 32], n: usize) -> u8
     requires { length names.now ≡ 32 }
     ensures { result ≡ get_or names.now n 0 }
 {
-    if n < 32 {
-        return names[n];
-    }
-    0
+    if n < 32 { names[n] } else { 0 }
 }
 
 // The location of a read or a write, from the name of its address register.
-fn location<'a>(
-    masks: &'a [u8; 4],
-    presets: &'a [u16; 32],
-    acts: &'a [u64; 48],
-    issued: usize,
-    i: Instr,
-    first: u8,
-) -> u8
-    requires { issued ≤ 48 }
-    ensures { (result < 8) × ((c : TheCase) (s : State) → Presets c masks.now presets.now → Acts c issued acts.now s → result ≡ cond (accesses (kind i)) (or_zero (value_of s (name_of c first)) % 8) 0) }
+fn location(case: &Case, m: &Machine, i: Instr, first: u8) -> u8
+    requires { m.now.issued ≤ 48 }
+    ensures { (result < 8) × ((c : TheCase) (s : State) → Presets c case.now.masks case.now.presets → Acts c m.now.issued m.now.acts s → result ≡ cond (accesses (kind i)) (or_zero (value_of s (name_of c first)) % 8) 0) }
 {
-    let k = rules::kind_of(i);
-    if (k == 1) | (k == 2) {
-        let x = machine::or_zero(machine::named(masks, presets, acts, issued, first));
-        return (x % 8) as u8;
+    if accesses(i) {
+        (machine::or_zero(machine::named(case, m, first)) % 8) as u8
+    } else {
+        0
     }
-    0
 }
 
 // A new entry of instruction i of processor p, its registers bound and its location fixed.
-fn new_entry<'a>(
-    masks: &'a [u8; 4],
-    presets: &'a [u16; 32],
-    names: &'a [u8; 32],
-    acts: &'a [u64; 48],
-    issued: usize,
-    p: usize,
-    place: u8,
-    i: Instr,
-) -> Entry
-    requires { Binding issued names.now p i }
-    ensures { Bound masks.now presets.now names.now acts.now issued p place i result }
+fn new_entry(case: &Case, m: &Machine, p: usize, place: u8, i: Instr) -> Entry
+    requires { Binding m.now.issued m.now.names p i }
+    ensures { Bound case.now.masks case.now.presets m.now.names m.now.acts m.now.issued p place i result }
 {
-    let a = words::wide(first_read(i));
-    let b = words::wide(second_read(i));
-    let first = name_at(names, 8 * p + a);
-    let second = name_at(names, 8 * p + b);
-    let loc = location(masks, presets, acts, issued, i, first);
+    let first = name_at(&m.names, 8 * p + first_read(i) as usize);
     Entry {
         instr: i,
-        proc: (p % 256) as u8,
+        proc: p as u8,
         place,
         first,
-        second,
-        loc,
+        second: name_at(&m.names, 8 * p + second_read(i) as usize),
+        loc: location(case, m, i, first),
         done: false,
         result: 0,
     }
 }
 
 // Codes 24 and 25 of an instruction whose address register holds v.
-fn address_code(i: Instr, v: Value, locs: u8) -> u8
+fn address_code(i: Instr, v: Option<u16>, locs: u8) -> u8
     ensures { result ≡ first_code_of (24 when (accesses (kind i) && is_none (shown_value v)) ∷ 25 when (accesses (kind i) && leb locs (or_zero (shown_value v))) ∷ []) }
 {
-    let k = rules::kind_of(i);
-    if (k == 1) | (k == 2) {
-        if !v.known {
-            return 24;
-        }
-        if locs as u16 <= v.value {
-            return 25;
-        }
+    match v {
+        _ if !accesses(i) => 0,
+        None => 24,
+        Some(v) if locs as u16 <= v => 25,
+        Some(_) => 0,
     }
-    0
 }
 
 // The code that an issue of processor p gets.
-pub fn issue_code<'a>(
-    program: &'a [u64; 48],
-    counts: &'a [u8; 4],
-    masks: &'a [u8; 4],
-    presets: &'a [u16; 32],
-    places: &'a [u8; 4],
-    names: &'a [u8; 32],
-    acts: &'a [u64; 48],
-    procs: u8,
-    locs: u8,
-    issued: usize,
-    p: usize,
-) -> u8
-    requires { Asking issued counts.now names.now p }
-    ensures { (c : TheCase) (s : State) → Lent c program.now counts.now masks.now presets.now procs locs → Acts c issued acts.now s → s.places p ≡ place_of (get_or places.now p 0) → s.names ≡ names_of c names.now → result ≡ first_code_of (issue_refusals c s p) }
+pub fn issue_code(case: &Case, program: &[u64; 48], m: &Machine, p: usize) -> u8
+    requires { Asking m.now.issued case.now.counts m.now.names p }
+    ensures { (c : TheCase) (s : State) → Lent c program.now case.now.counts case.now.masks case.now.presets case.now.procs case.now.locs → Acts c m.now.issued m.now.acts s → s.places p ≡ place_of (get_or m.now.places p 0) → s.names ≡ names_of c m.now.names → result ≡ first_code_of (issue_refusals c s p) }
 {
-    let place = places[p];
-    if place == 255 {
+    let place = m.places[p];
+    if place == UNDEFINED {
         return 21;
     }
-    if counts[p] <= place {
+    if case.counts[p] <= place {
         return 22;
     }
-    if 48 <= issued {
+    if 48 <= m.issued {
         return 23;
     }
-    let i = machine::instr_at(program, 12 * p + words::wide(place));
-    let a = words::wide(first_read(i));
-    let name = name_at(names, 8 * p + a);
-    let v = machine::named(masks, presets, acts, issued, name);
-    address_code(i, v, locs)
+    let i = machine::instr_at(program, 12 * p + place as usize);
+    let name = name_at(&m.names, 8 * p + first_read(i) as usize);
+    address_code(i, machine::named(case, m, name), case.locs)
 }
 
 // The register that instruction i assigns is renamed: it stands for what action k of processor p gives.
@@ -273,9 +211,9 @@ fn rename(names: &mut [u8; 32], p: usize, i: Instr, k: usize)
     requires { Renaming names.old p k i }
     ensures { Renamed names.old p k i names.new }
 {
-    let d = words::wide(assigned(i));
+    let d = assigned(i) as usize;
     if d < 8 {
-        names[8 * p + d] = ((32 + k) % 256) as u8;
+        names[8 * p + d] = (32 + k) as u8;
     }
 }
 
@@ -284,16 +222,14 @@ fn join_sets(sets: &mut [u64; 21], k: usize, e: Entry)
     requires { Keeping sets.old k e }
     ensures { KeptBy k e sets.old sets.new }
 {
-    let i = e.instr;
     let item = 8 + k;
-    let kind = words::wide(rules::kind_of(i));
-    let proc = words::wide(e.proc);
-    let loc = words::wide(e.loc);
-    let done = e.done;
+    let kind = rules::kind_of(e.instr) as usize;
+    let proc = e.proc as usize;
+    let loc = e.loc as usize;
     let writes = orders::with(sets[loc], item, kind == 2);
     let kinds = orders::with(sets[8 + kind], item, true);
-    let queue = orders::with(sets[16 + proc], item, !done);
-    let given = orders::with(sets[20], item, done);
+    let queue = orders::with(sets[16 + proc], item, !e.done);
+    let given = orders::with(sets[20], item, e.done);
     sets[loc] = writes;
     sets[8 + kind] = kinds;
     sets[16 + proc] = queue;
@@ -301,28 +237,19 @@ fn join_sets(sets: &mut [u64; 21], k: usize, e: Entry)
 }
 
 // Takes an issue of processor p that nothing refuses: the action is entered as number `issued`. The registers are bound to the names before the one assigned is renamed.
-pub fn issue<'a, 'b>(
-    program: &'a [u64; 48],
-    masks: &'a [u8; 4],
-    presets: &'a [u16; 32],
-    places: &'b mut [u8; 4],
-    names: &'b mut [u8; 32],
-    acts: &'b mut [u64; 48],
-    rows: &'b mut [u64; 56],
-    sets: &'b mut [u64; 21],
-    issued: usize,
-    p: usize,
-)
-    requires { Issuing program.now places.old names.old acts.old rows.old sets.old issued p }
-    ensures { (c : TheCase) (holders : List ℕ) → Program c program.now → Presets c masks.now presets.now → Accepted c (machine_of issued places.old names.old holders acts.old rows.old sets.old) (issue_step p) → Showing c (issued_of c (shown c (machine_of issued places.old names.old holders acts.old rows.old sets.old)) p) (machine_of (issued + 1) places.new names.new holders acts.new rows.new sets.new) }
+pub fn issue(case: &Case, program: &[u64; 48], m: &mut Machine, p: usize)
+    requires { Issuing program.now m.old.places m.old.names m.old.acts m.old.rows m.old.sets m.old.issued p }
+    ensures kept { (m.new.holders ≡ m.old.holders) × (m.new.issued ≡ m.old.issued + 1) }
+    ensures showing { (c : TheCase) → Program c program.now → Presets c case.now.masks case.now.presets → Accepted c m.old (issue_step p) → Showing c (issued_of c (shown c m.old) p) m.new }
 {
-    let place = places[p];
-    let i = machine::instr_at(program, 12 * p + words::wide(place));
-    let old = *names;
-    rename(names, p, i, issued);
-    let e = new_entry(masks, presets, &old, acts, issued, p, place, i);
-    join_order(rows, acts, issued, p, e);
-    join_sets(sets, issued, e);
-    acts[issued] = machine::packed(e);
-    places[p] = place_after(i, place);
+    let place = m.places[p];
+    let i = machine::instr_at(program, 12 * p + place as usize);
+    let k = m.issued;
+    let e = new_entry(case, m, p, place, i);
+    rename(&mut m.names, p, i, k);
+    join_order(&mut m.rows, &m.acts, k, p, e);
+    join_sets(&mut m.sets, k, e);
+    m.acts[k] = machine::packed(e);
+    m.places[p] = place_after(i, place);
+    m.issued = k + 1;
 }

@@ -3,6 +3,7 @@ use mathlib.Core.Path.{◌≡◌, refl, sym, ◌∙◌, ap}
 use mathlib.Core.Bool.{Bool, true, false, cond, not, ◌&&◌}
 use Prim.Native.Nat.{ℕ, suc, ◌+◌, ◌<◌}
 use native.Mathlib.Omega.{arith}
+use mir.Val.{bool_byte}
 use lib.Dec.{eqb, ltb}
 use borrow.Author.Tests.{lt-ltb}
 use Rattle.words.specs.Small.{is_none, any, some_below}
@@ -44,11 +45,15 @@ pub many_none : (f : ℕ → Bool) → 0 ≡ how_many 0 f
 unfolding how_many
 many_none f = refl
 
-pub many_next : (s : State) (n more x : ℕ) (w : Bool) → n < s.count → w ≡ (ltb n s.count && is_none (s.actions n).result) → more ≡ cond w 1 0 → x ≡ how_many n (λ j. is_none (s.actions j).result)
-    → more + x ≡ how_many (n + 1) (λ j. is_none (s.actions j).result)
+pub many_next : (s : State) (n x : ℕ) (w : Bool) → n < s.count → w ≡ (ltb n s.count && is_none (s.actions n).result) → x ≡ how_many n (λ j. is_none (s.actions j).result)
+    → x + bool_byte w ≡ how_many (n + 1) (λ j. is_none (s.actions j).result)
 unfolding how_many
-many_next s n more x w lt hw hm hx =
-    rw (add-one, hm, hx) (ap (λ (b : Bool). cond b 1 0 + how_many n (λ j. is_none (s.actions j).result)) (hw ∙ ap (λ (b : Bool). b && is_none (s.actions n).result) (lt-ltb n s.count lt)))
+many_next s n x w lt hw hx =
+    rw (add-one, hx, swap (how_many n (λ j. is_none (s.actions j).result)) w) (ap (λ (b : Bool). cond b 1 0 + how_many n (λ j. is_none (s.actions j).result)) (hw ∙ ap (λ (b : Bool). b && is_none (s.actions n).result) (lt-ltb n s.count lt)))
   where
     add-one : n + 1 ≡ suc n
     add-one = omega arith
+
+    swap : (m : ℕ) (b : Bool) → m + bool_byte b ≡ cond b 1 0 + m
+    swap m true = omega arith
+    swap m false = omega arith

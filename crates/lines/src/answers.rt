@@ -10,7 +10,7 @@ use crate::number::decimal;
 fn of_block(code: u8) -> bool
     ensures { result ≡ of_block code }
 {
-    ((0 < code) & (code < 8)) | (code == 19)
+    matches!(code, 1..=7 | 19)
 }
 
 // The end of a line: a block's code is followed by its position.
@@ -20,15 +20,16 @@ fn ending(text: &mut [u8], at: usize, code: u8, position: usize) -> usize
     if of_block(code) {
         let behind_at = word(text, at, b" at ");
         let behind_position = decimal(text, behind_at, position);
-        return word(text, behind_position, b"\n");
+        word(text, behind_position, b"\n")
+    } else {
+        word(text, at, b"\n")
     }
-    word(text, at, b"\n")
 }
 
 // The line of a refusal.
 pub fn refusal(text: &mut [u8], at: usize, code: u8, position: usize) -> usize
     ensures laid { Laid text.old at (refusal_line code position) text.new result }
-    ensures position_len_bound { length (refusal_line code position) ≤ 36 }
+    ensures short { length (refusal_line code position) ≤ 36 }
 {
     let behind_word = word(text, at, b"refused ");
     let behind_code = decimal(text, behind_word, code as usize);
@@ -38,7 +39,7 @@ pub fn refusal(text: &mut [u8], at: usize, code: u8, position: usize) -> usize
 // The line of a replay.
 pub fn replay(text: &mut [u8], at: usize, code: u8, steps: usize, position: usize) -> usize
     ensures laid { Laid text.old at (replay_line code steps position) text.new result }
-    ensures position_len_bound { length (replay_line code steps position) ≤ 66 }
+    ensures short { length (replay_line code steps position) ≤ 66 }
 {
     let behind_word = word(text, at, b"code ");
     let behind_code = decimal(text, behind_word, code as usize);
@@ -55,7 +56,8 @@ pub fn header(text: &mut [u8], at: usize, count: usize, cut: bool) -> usize
     let behind_word = word(text, at, b"outcomes ");
     let behind_count = decimal(text, behind_word, count);
     if cut {
-        return word(text, behind_count, b" cut yes\n");
+        word(text, behind_count, b" cut yes\n")
+    } else {
+        word(text, behind_count, b" cut no\n")
     }
-    word(text, behind_count, b" cut no\n")
 }

@@ -1,4 +1,5 @@
 // Bytes laid into a lent slice from a position on; each function answers the position behind them.
+// Slice and position stay two arguments: `Laid` speaks of both, and the pages name `word`, `decimal`, `refusal`, `replay` and `list`.
 ghost use Rattle.std.specs.Prelude.{[], ◌∷◌};
 ghost use Rattle.lines.specs.Laid.{Laid};
 
@@ -8,9 +9,10 @@ pub fn put(text: &mut [u8], at: usize, b: u8) -> usize
 {
     if at < text.len() {
         text[at] = b;
-        return at + 1;
+        at + 1
+    } else {
+        at
     }
-    at
 }
 
 // Several bytes.
@@ -18,10 +20,8 @@ pub fn word(text: &mut [u8], at: usize, bytes: &[u8]) -> usize
     ensures { Laid text.old at bytes.now text.new result }
 {
     let mut end = at;
-    let mut i: usize = 0;
-    while i < bytes.len() {
-        end = put(text, end, bytes[i]);
-        i += 1;
+    for b in bytes {
+        end = put(text, end, *b);
     }
     end
 }

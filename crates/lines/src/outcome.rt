@@ -15,9 +15,10 @@ fn register(text: &mut [u8], at: usize, defined: u8, high: u8, low: u8) -> usize
     ensures { Laid text.old at (register_of defined high low) text.new result }
 {
     if defined == 0 {
-        return put(text, at, b'-');
+        put(text, at, b'-')
+    } else {
+        decimal(text, at, 256 * (high as usize) + low as usize)
     }
-    decimal(text, at, 256 * (high as usize) + low as usize)
 }
 
 // Register k of processor p, and a space before it.
@@ -39,10 +40,8 @@ fn registers(text: &mut [u8], at: usize, outcome: &[u8], p: usize) -> usize
     ensures { LaidShort 48 text.old at (registers_of outcome.now p) text.new result }
 {
     let mut end = at;
-    let mut k: usize = 0;
-    while k < 8 {
+    for k in 0..8 {
         end = register_at(text, end, outcome, p, k);
-        k += 1;
     }
     end
 }
@@ -51,10 +50,7 @@ fn registers(text: &mut [u8], at: usize, outcome: &[u8], p: usize) -> usize
 fn gap(text: &mut [u8], at: usize, p: usize) -> usize
     ensures { Laid text.old at (gap_of p) text.new result }
 {
-    if p == 0 {
-        return at;
-    }
-    put(text, at, b' ')
+    if p == 0 { at } else { put(text, at, b' ') }
 }
 
 // Processor p and its registers.
@@ -72,12 +68,9 @@ fn processor(text: &mut [u8], at: usize, outcome: &[u8], p: usize) -> usize
 fn outcome_line(text: &mut [u8], at: usize, outcome: &[u8], procs: u8) -> usize
     ensures { LaidShort (53 * procs + 1) text.old at (outcome_line procs outcome.now) text.new result }
 {
-    let present = procs as usize;
     let mut end = at;
-    let mut p: usize = 0;
-    while p < present {
+    for p in 0..procs as usize {
         end = processor(text, end, outcome, p);
-        p += 1;
     }
     put(text, end, b'\n')
 }
@@ -86,14 +79,9 @@ fn outcome_line(text: &mut [u8], at: usize, outcome: &[u8], procs: u8) -> usize
 fn outcome_lines(text: &mut [u8], at: usize, records: &[u8], procs: u8) -> usize
     ensures { LaidShort ((53 * procs + 1) * (length records.now / 96)) text.old at (concat_map (outcome_line procs) (records_in (length records.now / 96) records.now)) text.new result }
 {
-    let count = records.len() / 96;
     let mut end = at;
-    let mut k: usize = 0;
-    while k < count {
-        let from = 96 * k;
-        let to = from + 96;
-        end = outcome_line(text, end, &records[from..to], procs);
-        k += 1;
+    for k in 0..records.len() / 96 {
+        end = outcome_line(text, end, &records[96 * k..96 * k + 96], procs);
     }
     end
 }
@@ -101,7 +89,7 @@ fn outcome_lines(text: &mut [u8], at: usize, records: &[u8], procs: u8) -> usize
 // The list of the records, of 96 bytes each: the header, and their lines.
 pub fn list(text: &mut [u8], at: usize, records: &[u8], cut: bool, procs: u8) -> usize
     ensures laid { Laid text.old at (list_text procs cut (records_in (length records.now / 96) records.now)) text.new result }
-    ensures records_len_bound { length (list_text procs cut (records_in (length records.now / 96) records.now)) ≤ 38 + (53 * procs + 1) * (length records.now / 96) }
+    ensures short { length (list_text procs cut (records_in (length records.now / 96) records.now)) ≤ 38 + (53 * procs + 1) * (length records.now / 96) }
 {
     let behind_header = header(text, at, records.len() / 96, cut);
     outcome_lines(text, behind_header, records, procs)

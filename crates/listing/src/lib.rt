@@ -31,36 +31,25 @@ fn refuse(code: u8, position: usize, buffer: &mut [u8]) -> Answer
 }
 
 // The outcomes of a case within n steps.
-fn search(c: Case, n: usize, out: &mut [u8]) -> Answer
-    requires { Searching c n }
-    ensures { Found c n (length out.old) result out.new }
+fn search(case: &Case, n: usize, out: &mut [u8]) -> Answer
+    requires { Searching case.now n }
+    ensures { Found case.now n (length out.old) result out.new }
 {
     records::clear(out);
     let fresh = [0u64; 50];
-    let empty = Tally {
-        count: 0,
-        cut: false,
-        full: false,
-    };
-    let program = machine::program(c);
-    let m = machine::start(c);
+    let program = machine::program(case);
+    let m = machine::start(case);
     let found = searching::explore(
-        c,
+        case,
         &program,
-        &m.places,
-        &m.names,
-        &m.holders,
-        &m.acts,
-        &m.rows,
-        &m.sets,
-        m.issued,
+        &m,
         3200,
         n,
-        choices::forward(c),
+        choices::forward(case),
         clauses::no_clauses(),
         &fresh,
         out,
-        empty,
+        Tally::default(),
     );
     if found.full {
         return refuse(11, 0, out);
@@ -85,6 +74,5 @@ pub fn outcomes(block: &[u8], bound: u32, out: &mut [u8]) -> Answer
     if bound > 96 {
         return refuse(10, 0, out);
     }
-    let case = read.case;
-    search(case, bound as usize, out)
+    search(&read.case, bound as usize, out)
 }

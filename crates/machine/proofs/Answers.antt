@@ -26,16 +26,11 @@ use Rattle.machine.specs.Lent.{Ending}
 use Rattle.machine.proofs.Listing.{blocks_long, block_at}
 use Rattle.machine.proofs.Items.{queue_empty}
 
-pub byte_none : (known : Bool) (v j : ℕ) → not known ≡ true → j < 3 → 0 ≡ get_or (register_bytes (option_of known v)) j 0
-byte_none true v j h lt = absurd (false≢true h)
-byte_none false v zero h lt = refl
-byte_none false v (suc zero) h lt = refl
-byte_none false v (suc (suc zero)) h lt = refl
-byte_none false v (suc (suc (suc j))) h lt = absurd (omega arith)
-
-pub byte_some : (known : Bool) (v j : ℕ) → not known ≡ false → get_or (register_bytes (some v)) j 0 ≡ get_or (register_bytes (option_of known v)) j 0
-byte_some true v j h = refl
-byte_some false v j h = absurd (false≢true (sym h))
+pub byte_none : (j : ℕ) → j < 3 → 0 ≡ get_or (register_bytes none) j 0
+byte_none zero lt = refl
+byte_none (suc zero) lt = refl
+byte_none (suc (suc zero)) lt = refl
+byte_none (suc (suc (suc j))) lt = absurd (omega arith)
 
 width : (o : Option ℕ) → length (register_bytes o) ≡ 3
 width none = refl
@@ -76,7 +71,7 @@ module _ (c : Case) (s : State) where
 
   -- the bytes of an absent processor
   absent : (i : ℕ) → i < 96 → c.procs ≤ i / 3 / 8 → get_or (registers c s) i 0 ≡ 0
-  absent i h p = register_at_lem i h ∙ rw (le-ltb (i / 3 / 8) c.procs p) (sym (byte_none false 0 (i % 3) refl (omega arith)))
+  absent i h p = register_at_lem i h ∙ rw (le-ltb (i / 3 / 8) c.procs p) (sym (byte_none (i % 3) (omega arith)))
 
   -- the bytes of the first n registers, and zeros
   pub registers_are : (out : List ℕ) (n : ℕ) → length out ≡ 96 → 8 * c.procs ≤ n → ((j : ℕ) → j < 3 * n → get_or out j 0 ≡ get_or (registers c s) j 0) → ((j : ℕ) → 3 * n ≤ j → j < 96 → get_or out j 0 ≡ 0) → out ≡ registers c s

@@ -2,7 +2,7 @@
 use mathlib.Core.Path.{◌≡◌, refl, ◌∙◌, ap}
 use mathlib.Core.Bool.{Bool, true, false, not, ◌&&◌}
 use mathlib.Core.List.{List}
-use mathlib.Core.Option.{some}
+use mathlib.Core.Option.{some, none}
 use Prim.Native.Nat.{ℕ, ◌+◌, ◌*◌, ◌-◌, ◌/◌, ◌%◌, ◌≤◌, ◌<◌}
 use native.Mathlib.Omega.{arith}
 use lib.Dec.{eqb}
@@ -13,6 +13,7 @@ use Rattle.words.specs.Sets.{has}
 use Rattle.cases.specs.declared.Case.{Case}
 use Rattle.cases.specs.Case.{preset_of}
 use Rattle.rules.specs.State.{State, Action, unissued, value_of, item_value}
+use Rattle.machine.specs.declared.Entry.{Entry}
 use Rattle.machine.specs.Word.{entry_of}
 use Rattle.machine.specs.Shown.{name_of, names_of, option_of, shown_entry, Presets, Acts}
 
@@ -24,8 +25,19 @@ pub is_option : (n : ℕ) (known : Bool) (v : ℕ) → (known && eqb v n) ≡ is
 is_option n true v = refl
 is_option n false v = refl
 
-pub preset_at : (c : Case) (masks presets : List ℕ) (n : ℕ) (known : Bool) → Presets c masks presets → known ≡ has (get_or masks (n / 8) 0) (n % 8) → option_of known (get_or presets n 0) ≡ preset_of c (n / 8) (n % 8)
-preset_at c masks presets n known q h = let e : 8 * (n / 8) + n % 8 ≡ n = omega arith in rw (h, q.masks, q.presets, e)
+module _ (c : Case) (masks presets : List ℕ) (n : ℕ) (q : Presets c masks presets) where
+  pub preset_some : has (get_or masks (n / 8) 0) (n % 8) ≡ true → some (get_or presets n 0) ≡ preset_of c (n / 8) (n % 8)
+  preset_some h = let e : 8 * (n / 8) + n % 8 ≡ n = omega arith in rw (q.masks, q.presets, h, e)
+
+  pub preset_none : has (get_or masks (n / 8) 0) (n % 8) ≡ false → none ≡ preset_of c (n / 8) (n % 8)
+  preset_none h = rw (q.masks, q.presets, h)
+
+-- what an entry gives
+pub done_some : (e : Entry) → e.done ≡ true → some e.result ≡ option_of e.done e.result
+done_some e h = rw h
+
+pub done_none : (e : Entry) → e.done ≡ false → none ≡ option_of e.done e.result
+done_none e h = rw h
 
 module _ (c : Case) (n : ℕ) (acts : List ℕ) (s : State) (a : Acts c n acts s) where
   pub action_at_lem : (k : ℕ) → k < n → s.actions k ≡ shown_entry c (entry_of (get_or acts k 0))

@@ -1,5 +1,6 @@
 -- What the machine's arrays show: a state of the rules. Assumes nothing.
-use Rattle.std.specs.Prelude.{◌≡◌, Bool, ◌&&◌, cond, List, [], ◌∷◌, ℕ, ◌+◌, ◌*◌, ◌-◌, ◌/◌, ◌%◌, eqb, ltb, get_or}
+use Rattle.std.specs.Prelude as std
+use Rattle.std.specs.Prelude.{Some, None, ◌≡◌, Bool, ◌&&◌, cond, List, [], ◌∷◌, ℕ, ◌+◌, ◌*◌, ◌-◌, ◌/◌, ◌%◌, eqb, ltb, get_or}
 use Rattle.std.proofs.Math.Option.{Option, none, some}
 use Rattle.cases.specs.declared.Case.{Case}
 use Rattle.cases.specs.Case.{preset_of}
@@ -9,7 +10,6 @@ use Rattle.rules.specs.Order.{Order}
 use Rattle.oneorder.specs.OneOrder.{OneState, limited, view}
 use Rattle.orders.specs.Rows.{order_of}
 use Rattle.machine.specs.declared.Entry.{Entry}
-use Rattle.machine.specs.declared.Value.{Value}
 use Rattle.machine.specs.declared.Machine.{Machine}
 use Rattle.machine.specs.Word.{entry_of}
 
@@ -27,8 +27,12 @@ inputs_of c (a ∷ b ∷ more) x y = name_of c x ∷ name_of c y ∷ []
 abbrev pub option_of : Bool → ℕ → Option ℕ
 option_of known v = cond known (some v) none
 
+abbrev pub Value : Type 0
+Value = std.Option ℕ
+
 abbrev pub shown_value : Value → Option ℕ
-shown_value v = option_of v.known v.value
+shown_value None = none
+shown_value (Some v) = some v
 
 abbrev pub shown_entry : Case → Entry → Action
 shown_entry c e =

@@ -44,169 +44,113 @@ pub struct Machine {
     pub sets: [u64; 21],
 }
 
-// A value, where it is known.
-#[derive(Clone, Copy)]
-pub struct Value {
-    pub known: bool,
-    pub value: u16,
-}
-
 // The value of a register, 0 where it is undefined.
-pub fn or_zero(v: Value) -> u16
+pub fn or_zero(v: Option<u16>) -> u16
     ensures { result ≡ or_zero (shown_value v) }
 {
-    if v.known {
-        return v.value;
-    }
-    0
+    v.unwrap_or(0)
 }
 
 // What action k gives.
-fn value_at(acts: &[u64; 48], issued: usize, k: usize) -> Value
-    requires { issued ≤ 48 }
-    ensures { (c : TheCase) (s : State) → Acts c issued acts.now s → shown_value result ≡ (s.actions k).result }
+fn value_at(m: &Machine, k: usize) -> Option<u16>
+    requires { m.now.issued ≤ 48 }
+    ensures { (c : TheCase) (s : State) → Acts c m.now.issued m.now.acts s → shown_value result ≡ (s.actions k).result }
 {
-    if k < issued {
-        let e = entry_at(acts, k);
-        return Value {
-            known: e.done,
-            value: e.result,
-        };
+    if k < m.issued {
+        let e = entry_at(&m.acts, k);
+        if e.done {
+            return Some(e.result);
+        }
     }
-    Value {
-        known: false,
-        value: 0,
-    }
+    None
 }
 
 // What register n, counted over all processors, starts with.
-pub fn preset_of<'a>(masks: &'a [u8; 4], presets: &'a [u16; 32], n: usize) -> Value
+pub fn preset_of(case: &Case, n: usize) -> Option<u16>
     requires { n < 32 }
-    ensures { (c : TheCase) → Presets c masks.now presets.now → shown_value result ≡ preset_of c (n / 8) (n % 8) }
+    ensures { (c : TheCase) → Presets c case.now.masks case.now.presets → shown_value result ≡ preset_of c (n / 8) (n % 8) }
 {
-    let mask = words::wide(masks[n / 8]) as u64;
-    let known = words::has(mask, n % 8);
-    Value {
-        known,
-        value: presets[n],
+    if words::has(case.masks[n / 8] as u64, n % 8) {
+        Some(case.presets[n])
+    } else {
+        None
     }
 }
 
 // The value that a name stands for.
-pub fn named<'a>(
-    masks: &'a [u8; 4],
-    presets: &'a [u16; 32],
-    acts: &'a [u64; 48],
-    issued: usize,
-    name: u8,
-) -> Value
-    requires { issued ≤ 48 }
-    ensures { (c : TheCase) (s : State) → Presets c masks.now presets.now → Acts c issued acts.now s → shown_value result ≡ value_of s (name_of c name) }
+pub fn named(case: &Case, m: &Machine, name: u8) -> Option<u16>
+    requires { m.now.issued ≤ 48 }
+    ensures { (c : TheCase) (s : State) → Presets c case.now.masks case.now.presets → Acts c m.now.issued m.now.acts s → shown_value result ≡ value_of s (name_of c name) }
 {
-    let n = words::wide(name);
+    let n = name as usize;
     if n < 32 {
-        return preset_of(masks, presets, n);
+        preset_of(case, n)
+    } else {
+        value_at(m, n - 32)
     }
-    value_at(acts, issued, n - 32)
 }
 
 // The value of an item.
-pub fn item_value<'a>(memory: &'a [u16; 8], acts: &'a [u64; 48], issued: usize, e: usize) -> Value
-    requires { issued ≤ 48 }
-    ensures { (c : TheCase) (s : State) → c.memory ≡ memory.now → Acts c issued acts.now s → shown_value result ≡ item_value c s e }
+pub fn item_value(case: &Case, m: &Machine, e: usize) -> Option<u16>
+    requires { m.now.issued ≤ 48 }
+    ensures { (c : TheCase) (s : State) → c.memory ≡ case.now.memory → Acts c m.now.issued m.now.acts s → shown_value result ≡ item_value c s e }
 {
     if e < 8 {
-        return Value {
-            known: true,
-            value: memory[e],
-        };
+        Some(case.memory[e])
+    } else {
+        value_at(m, e - 8)
     }
-    value_at(acts, issued, e - 8)
 }
 
 // Whether an entry is in the queue of processor p.
 pub fn queued(e: Entry, p: usize) -> bool
     ensures { (c : TheCase) → result ≡ waiting p (shown_entry c e) }
 {
-    let proc = words::wide(e.proc);
-    (proc == p) & !e.done
+    e.proc as usize == p && !e.done
 }
 
 // Whether every queue is empty and every place counter at its processor's count.
-pub fn finished<'a>(
-    counts: &'a [u8; 4],
-    places: &'a [u8; 4],
-    sets: &'a [u64; 21],
-    procs: u8,
-) -> bool
-    requires { procs ≤ 4 }
-    ensures { (c : TheCase) (s : State) → Ending c s counts.now places.now procs → Kept c s sets.now → result ≡ is_finished c s }
+pub fn finished(case: &Case, m: &Machine) -> bool
+    requires { case.now.procs ≤ 4 }
+    ensures { (c : TheCase) (s : State) → Ending c s case.now.counts m.now.places case.now.procs → Kept c s m.now.sets → result ≡ is_finished c s }
 {
-    let top = words::wide(procs);
     let mut all = true;
-    let mut p: usize = 0;
-    while p < top {
-        let idle = sets[16 + p] == 0;
-        let there = places[p] == counts[p];
-        all = all & (idle & there);
-        p += 1;
+    for p in 0..case.procs as usize {
+        all &= m.places[p] == case.counts[p] && m.sets[16 + p] == 0;
     }
     all
 }
 
 // What register n, counted over all processors, holds.
-fn register<'a>(
-    masks: &'a [u8; 4],
-    presets: &'a [u16; 32],
-    names: &'a [u8; 32],
-    acts: &'a [u64; 48],
-    issued: usize,
-    n: usize,
-) -> Value
-    requires { (issued ≤ 48) × (n < 32) }
-    ensures { (c : TheCase) (s : State) → Presets c masks.now presets.now → Acts c issued acts.now s → s.names (n / 8) (n % 8) ≡ name_of c (get_or names.now n 0) → shown_value result ≡ value_of s (s.names (n / 8) (n % 8)) }
+fn register(case: &Case, m: &Machine, n: usize) -> Option<u16>
+    requires { (m.now.issued ≤ 48) × (n < 32) }
+    ensures { (c : TheCase) (s : State) → Presets c case.now.masks case.now.presets → Acts c m.now.issued m.now.acts s → s.names (n / 8) (n % 8) ≡ name_of c (get_or m.now.names n 0) → shown_value result ≡ value_of s (s.names (n / 8) (n % 8)) }
 {
-    named(masks, presets, acts, issued, names[n])
+    named(case, m, m.names[n])
 }
 
 // Byte j of the three of a register.
-pub fn byte_of(v: Value, j: usize) -> u8
+pub fn byte_of(v: Option<u16>, j: usize) -> u8
     requires { j < 3 }
     ensures { result ≡ get_or (register_bytes (shown_value v)) j 0 }
 {
-    if !v.known {
-        return 0;
+    match v {
+        None => 0,
+        Some(v) => [1, (v / 256) as u8, (v % 256) as u8][j],
     }
-    if j == 0 {
-        return 1;
-    }
-    if j == 1 {
-        return (v.value / 256) as u8;
-    }
-    (v.value % 256) as u8
 }
 
 // The 96 bytes of registers; those of an absent processor are zeros.
-pub fn registers<'a>(
-    masks: &'a [u8; 4],
-    presets: &'a [u16; 32],
-    names: &'a [u8; 32],
-    acts: &'a [u64; 48],
-    procs: u8,
-    issued: usize,
-) -> [u8; 96]
-    requires { (issued ≤ 48) × (procs ≤ 4) }
-    ensures { (c : TheCase) (s : State) → c.procs ≡ procs → Presets c masks.now presets.now → Acts c issued acts.now s → s.names ≡ names_of c names.now → result ≡ registers_of c s }
+pub fn registers(case: &Case, m: &Machine) -> [u8; 96]
+    requires { (m.now.issued ≤ 48) × (case.now.procs ≤ 4) }
+    ensures { (c : TheCase) (s : State) → c.procs ≡ case.now.procs → Presets c case.now.masks case.now.presets → Acts c m.now.issued m.now.acts s → s.names ≡ names_of c m.now.names → result ≡ registers_of c s }
 {
-    let top = 8 * words::wide(procs);
     let mut out = [0u8; 96];
-    let mut n: usize = 0;
-    while n < top {
-        let v = register(masks, presets, names, acts, issued, n);
+    for n in 0..8 * case.procs as usize {
+        let v = register(case, m, n);
         out[3 * n] = byte_of(v, 0);
         out[3 * n + 1] = byte_of(v, 1);
         out[3 * n + 2] = byte_of(v, 2);
-        n += 1;
     }
     out
 }
@@ -223,9 +167,9 @@ const READY: [u64; 21] = [
 ];
 
 // The machine before the first step.
-pub fn start(c: Case) -> Machine
-    requires { Fit c }
-    ensures { (shown c result ≡ initial c) × Valid c result }
+pub fn start(case: &Case) -> Machine
+    requires { Fit case.now }
+    ensures { (shown case.now result ≡ initial case.now) × Valid case.now result }
 {
     Machine {
         issued: 0,

@@ -75,22 +75,18 @@ pub fn entry_at(acts: &[u64; 48], k: usize) -> Entry
     }
 }
 
-// The kind of action k.
+// The kind of action k, as the number that `kind` of the rules gives.
 pub fn kind_at(acts: &[u64; 48], k: usize) -> u8
     requires { k < 48 }
     ensures { (result ≡ kind (entry_of (get_or acts.now k 0)).instr) × (result < 8) }
 {
     let op = (acts[k] % 16) as u8;
-    if op < 3 {
-        return op;
+    match op {
+        0..=2 => op,
+        3..=6 => 3,
+        7..=10 => op - 3,
+        _ => 0,
     }
-    if op < 7 {
-        return 3;
-    }
-    if op < 11 {
-        return op - 3;
-    }
-    0
 }
 
 // The number of an op with its fields, each cut to its width.
@@ -139,17 +135,13 @@ fn code_of(i: Instr) -> u64
 }
 
 // The program of a case: the numbers of its instructions, each at its slot.
-pub fn program(c: Case) -> [u64; 48]
-    requires { Fit c }
-    ensures { Program c result }
+pub fn program(case: &Case) -> [u64; 48]
+    requires { Fit case.now }
+    ensures { Program case.now result }
 {
     let mut out = [0u64; 48];
-    let mut n: usize = 0;
-    while n < 48 {
-        let s = c.code[n];
-        let i = s.instr;
-        out[n] = code_of(i);
-        n += 1;
+    for n in 0..48 {
+        out[n] = code_of(case.code[n].instr);
     }
     out
 }
@@ -158,10 +150,7 @@ pub fn program(c: Case) -> [u64; 48]
 fn result_code(done: bool, res: u16) -> u64
     ensures { (result ≡ cond done 1 0 + 2 * res) × (result < 131072) }
 {
-    if done {
-        return 1 + 2 * res as u64;
-    }
-    2 * res as u64
+    done as u64 + 2 * res as u64
 }
 
 // The word that holds an entry.
@@ -169,9 +158,8 @@ pub fn packed(e: Entry) -> u64
     requires { Packable e }
     ensures { entry_of result ≡ e }
 {
-    let i = e.instr;
     let from_done = result_code(e.done, e.result);
     let from_second = e.second as u64 + 128 * (e.loc as u64 + 8 * from_done);
     let from_place = e.place as u64 + 16 * (e.first as u64 + 128 * from_second);
-    code_of(i) + 8388608 * (e.proc as u64 + 4 * from_place)
+    code_of(e.instr) + 8388608 * (e.proc as u64 + 4 * from_place)
 }

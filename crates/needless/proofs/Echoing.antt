@@ -1,6 +1,6 @@
 -- Steps that do what a spent one does. Assumes nothing.
 use mathlib.Core.Path.{◌≡◌, refl, sym, ap, ◌∙◌}
-use mathlib.Core.Bool.{Bool, true, false, ◌&&◌, not, false≢true}
+use mathlib.Core.Bool.{Bool, true, false, ◌&&◌, ◌||◌, not, false≢true}
 use mathlib.Core.List.{List}
 use Prim.Native.Nat.{ℕ, ◌^◌, ◌<◌}
 use native.Mathlib.Omega.{arith}
@@ -23,6 +23,12 @@ use Rattle.needless.specs.Echoes.{gives_in, is_novel, EchoIn, Unechoed}
 -- a read takes v from item f
 abbrev pub takes : Case → State → ℕ → ℕ → Bool
 takes c s v f = eqb v (or_zero (item_value c s f))
+
+pub or_turn : (a b : Bool) → (a || b) ≡ (b || a)
+or_turn true true = refl
+or_turn true false = refl
+or_turn false true = refl
+or_turn false false = refl
 
 module _ (c : Case) (s : State) (word done : ℕ) where
   -- what the items of both sets give

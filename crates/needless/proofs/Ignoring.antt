@@ -1,6 +1,6 @@
 -- Reads that nothing looks at. Assumes nothing.
 use mathlib.Core.Path.{◌≡◌, refl, sym, ap, subst, ◌∙◌}
-use mathlib.Core.Logic.{◌⊎◌, ⊎_elim}
+use mathlib.Core.Logic.{⊎_elim}
 use mathlib.Core.Bool.{Bool, true, false, ◌&&◌, ◌||◌, not, false≢true}
 use mathlib.Core.List.{List}
 use Prim.Native.Nat.{ℕ, ◌+◌, ◌*◌, ◌-◌, ◌^◌, ◌<◌, ◌≤◌}
@@ -9,7 +9,7 @@ use lib.Dec.{eqb, ltb}
 use lib.ListN.{length, get_or}
 use borrow.Author.Tests.{lt-ltb, ltb-true, ltb-false, eqb-true, eqb-false, eq-eqb, ne_eqb}
 use Rattle.words.specs.Small.{is_none, some_below}
-use Rattle.words.proofs.Bools.{decide, or_cases, or_none, and_both, and_make, and_true, and_right, below_make, fails}
+use Rattle.words.proofs.Bools.{decide, or_cases, or_none, and_make, below_make, fails}
 use Rattle.words.specs.Sets.{has}
 use Rattle.words.proofs.Sets.{has_zero, has_or, has_one}
 use lib.Bits.{bit_or}
@@ -25,6 +25,7 @@ use Rattle.machine.proofs.Entries.{none_option}
 use Rattle.issuing.specs.Issued.{assigned_by}
 use Rattle.committing.proofs.Inputs.{undefined_inputs}
 use Rattle.needless.specs.Joins.{Joins}
+use Rattle.needless.proofs.Echoing.{or_turn}
 
 pub given_name : (c : Case) (n k : ℕ) → eqb n (32 + k) ≡ is_given k (name_of c n)
 given_name c n k = ⊎_elim small large (decide (ltb n 32))
@@ -79,20 +80,9 @@ module _ (c : Case) (names : List ℕ) (k : ℕ) where
     holds_out (Acquire a) h = refl
     holds_out (Release a) h = refl
 
-pub kinds_test : (q k : ℕ) → q ≡ k → (not (eqb q 1) && not (eqb q 3)) ≡ false → ignorable k ≡ true
-kinds_test q k e h = both (eqb k 1) (eqb k 3) (subst (λ (i : ℕ). (not (eqb i 1) && not (eqb i 3)) ≡ false) e h)
-  where
-    both : (a b : Bool) → (not a && not b) ≡ false → (a || b) ≡ true
-    both true b h = refl
-    both false true h = refl
-    both false false h = absurd (false≢true (sym h))
-
 -- a set with one number more
-pub joined_yes : (x k one a : ℕ) (test : Bool) → one ≡ 2 ^ k → test ≡ true → has (bit_or one x) a ≡ ((eqb a k && test) || has x a)
-joined_yes x k one a test e t = has_or one x a ∙ rw (e, has_one k a, t) (ap (λ (b : Bool). b || has x a) (sym (and_true (eqb a k))))
-
-pub joined_no : (x k a : ℕ) (test : Bool) → test ≡ false → has x a ≡ ((eqb a k && test) || has x a)
-joined_no x k a test t = rw t (ap (λ (b : Bool). b || has x a) (sym (and_right (eqb a k) false refl)))
+pub with_one : (x k one a : ℕ) → one ≡ 2 ^ k → has (bit_or x one) a ≡ (eqb a k || has x a)
+with_one x k one a e = has_or x one a ∙ rw (e, has_one k a) (or_turn (has x a) (eqb a k))
 
 -- no action
 pub ignored_none : (s : State) → Ignored s (has 0)
@@ -108,25 +98,23 @@ ignored_none s =
     no k h = absurd (false≢true (sym (has_zero k) ∙ h))
 
 -- one action more
-pub ignored_more : (s : State) (inner k more : ℕ) (test : Bool) → k < s.count → Ignored s (has inner) → ((a : ℕ) → has more a ≡ ((eqb a k && test) || has inner a)) → (test ≡ true → Joins s inner k) → Ignored s (has more)
-ignored_more s inner k more test l I B J =
+pub ignored_more : (s : State) (inner k more : ℕ) → k < s.count → Ignored s (has inner) → ((a : ℕ) → has more a ≡ (eqb a k || has inner a)) → Joins s inner k → Ignored s (has more)
+ignored_more s inner k more l I B J =
     record {
-      there = λ a h. each (λ i. i < s.count) (λ t. l) I.there a h;
-      kinds = λ a h. each (λ i. ignorable (kind_of (s.actions i)) ≡ true) (λ t. (J t).kinds) I.kinds a h;
-      renamed = λ a h. each (λ i. holds_on s i (assigns (s.actions i).instr) ≡ false) (λ t. (J t).renamed) I.renamed a h;
-      unread = λ j a z o h. each (λ i. awaits i (s.actions j) ≡ false) (λ t. new j z (out j o) t) (λ i d. I.unread j i z (out j o) d) a h;
+      there = λ a h. each (λ i. i < s.count) l I.there a h;
+      kinds = λ a h. each (λ i. ignorable (kind_of (s.actions i)) ≡ true) J.kinds I.kinds a h;
+      renamed = λ a h. each (λ i. holds_on s i (assigns (s.actions i).instr) ≡ false) J.renamed I.renamed a h;
+      unread = λ j a z o h. each (λ i. awaits i (s.actions j) ≡ false) (new j z (out j o)) (λ i d. I.unread j i z (out j o) d) a h;
     }
   where
-    each : (P : ℕ → Type 0) → (test ≡ true → P k) → ((a : ℕ) → has inner a ≡ true → P a) → (a : ℕ) → has more a ≡ true → P a
-    each P f g a h =
-        ⊎_elim (λ w. let b = and_both (eqb a k) test w in subst P (sym (eqb-true a k b.0)) (f b.1)) (g a)
-        (or_cases (eqb a k && test) (has inner a) (sym (B a) ∙ h))
+    each : (P : ℕ → Type 0) → P k → ((a : ℕ) → has inner a ≡ true → P a) → (a : ℕ) → has more a ≡ true → P a
+    each P f g a h = ⊎_elim (λ w. subst P (sym (eqb-true a k w)) f) (g a) (or_cases (eqb a k) (has inner a) (sym (B a) ∙ h))
 
     out : (j : ℕ) → has more j ≡ false → has inner j ≡ false
-    out j o = (or_none (eqb j k && test) (has inner j) (sym (B j) ∙ o)).1
+    out j o = (or_none (eqb j k) (has inner j) (sym (B j) ∙ o)).1
 
-    new : (j : ℕ) → j < s.count → has inner j ≡ false → test ≡ true → awaits k (s.actions j) ≡ false
-    new j z o t =
+    new : (j : ℕ) → j < s.count → has inner j ≡ false → awaits k (s.actions j) ≡ false
+    new j z o =
         fails (some_below s.count (λ j. awaits k (s.actions j) && not (has inner j))) (awaits k (s.actions j))
         (λ w. below_make s.count (λ j. awaits k (s.actions j) && not (has inner j)) j z (and_make (awaits k (s.actions j)) _ w (ap not o)))
-        (J t).unread
+        J.unread

@@ -8,7 +8,7 @@ use native.Mathlib.Decide.{dec_lt}
 use lib.Bits.{bit_and}
 use lib.Dec.{eqb, leb}
 use lib.ListN.{get_or}
-use borrow.Author.Tests.{lt-ltb, le-ltb, le-leb, lt-leb, leb-false, eqb-true, eq-eqb, ne_eqb, not-true, not-false}
+use borrow.Author.Tests.{lt-ltb, le-ltb, lt-leb, leb-false, eqb-true, eq-eqb, ne_eqb, not-true, not-false}
 use Rattle.words.specs.Small.{is_none, any, some_below}
 use Rattle.words.specs.Sets.{has}
 use Rattle.words.specs.Refusals.{first_code_of}
@@ -64,11 +64,6 @@ set_over P n r x h f S e =
 queued_is : (k q : ℕ) (d : Bool) (v : ℕ) (z : Bool) → k ≡ q → (eqb k 1 && (not d && not z)) ≡ (reading q && (is_none (option_of d v) && not z))
 queued_is k q d v z h = λ j. eqb (h j) 1 && (none_option d v j && not z)
 
-other_shut : (a d z : Bool) → (not a || d) ≡ true → (a && (not d && z)) ≡ false
-other_shut true true z h = refl
-other_shut true false z h = absurd (false≢true h)
-other_shut false d z h = refl
-
 other_open : (a d : Bool) → (not a || d) ≡ false → (a ≡ true) × (not d ≡ true)
 other_open true true h = absurd (false≢true (sym h))
 other_open true false h = (refl, refl)
@@ -88,12 +83,6 @@ one_input c f (Release a) x y h = absurd (omega arith)
 module _ (c : Case) (s : State) (masks rows sets : List ℕ) (procs : ℕ) (e : Entry) (k : ℕ) (E : EntryIn c s masks rows sets procs e k) (q : ℕ) (same : q ≡ kind e.instr) where
   queue_test : queued_read c.procs (s.actions k) ≡ (eqb q 1 && (not e.done && not (leb procs e.proc)))
   queue_test = ap₂ queued_read E.present E.same ∙ sym (queued_is q (kind e.instr) e.done e.result (leb procs e.proc) same)
-
-  pub ready_other : (not (eqb q 1) || e.done) ≡ true → false ≡ ready_read c s k
-  ready_other t = sym (and_left (queued_read c.procs (s.actions k)) _ (queue_test ∙ other_shut (eqb q 1) e.done (not (leb procs e.proc)) t))
-
-  pub ready_absent : procs ≤ e.proc → false ≡ ready_read c s k
-  ready_absent h = sym (and_left (queued_read c.procs (s.actions k)) _ (queue_test ∙ and_right (eqb q 1) _ (and_right (not e.done) _ (ap not (le-leb procs e.proc h)))))
 
   module _ (t : (not (eqb q 1) || e.done) ≡ false) (l : e.proc < procs) where
     is_queued : queued_read c.procs (s.actions k) ≡ true

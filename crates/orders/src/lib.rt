@@ -11,35 +11,25 @@ ghost use Rattle.orders.specs.Rows.{order_of, joined_row, SetOf, Reaches, Joined
 pub fn before(rows: &[u64; 56], a: usize, b: usize) -> bool
     ensures { result ≡ order_of rows.now a b }
 {
-    if 56 <= b {
-        return false;
-    }
-    let row = rows[b];
-    words::has(row, a)
+    b < 56 && words::has(rows[b], a)
 }
 
 // Item e and what stands before it; past the last row nothing.
 fn up_to(rows: &[u64; 56], e: usize) -> u64
     ensures { (a : ℕ) → in_set result a ≡ (ltb e 56 && up_to (order_of rows.now) a e) }
 {
-    if e < 56 {
-        let row = rows[e];
-        return words::one(e) | row;
-    }
-    0
+    if e < 56 { words::one(e) | rows[e] } else { 0 }
 }
 
 // Row b once the mask is put before item i.
 fn joined_row(row: u64, b: usize, i: usize, mask: u64) -> u64
     ensures { result ≡ joined_row row b i mask }
 {
-    if b == i {
-        return row | mask;
+    if b == i || words::has(row, i) {
+        row | mask
+    } else {
+        row
     }
-    if words::has(row, i) {
-        return row | mask;
-    }
-    row
 }
 
 // Puts the mask before item i and before every item after it.
@@ -47,12 +37,8 @@ fn spread(rows: &mut [u64; 56], i: usize, mask: u64)
     requires { length rows.old ≡ 56 }
     ensures { (length rows.new ≡ 56) × JoinedTo rows.old rows.new i mask 56 }
 {
-    let mut b: usize = 0;
-    while b < 56 {
-        let row = rows[b];
-        let new = joined_row(row, b, i, mask);
-        rows[b] = new;
-        b += 1;
+    for b in 0..56 {
+        rows[b] = joined_row(rows[b], b, i, mask);
     }
 }
 
@@ -61,10 +47,7 @@ pub fn with(x: u64, n: usize, test: bool) -> u64
     requires { n < 64 }
     ensures { (P : ℕ → Bool) → SetOf n P x → test ≡ P n → SetOf (n + 1) P result }
 {
-    if test {
-        return words::one(n) | x;
-    }
-    x
+    if test { words::one(n) | x } else { x }
 }
 
 // The set x without what it has in common with y.
@@ -78,7 +61,7 @@ pub fn minus(x: u64, y: u64) -> u64
 pub fn lowest(x: u64) -> usize
     ensures { Least x result }
 {
-    u64::trailing_zeros(x) as usize
+    x.trailing_zeros() as usize
 }
 
 // A set without its least number.
@@ -94,11 +77,10 @@ fn reach(rows: &[u64; 56], items: u64, n: usize) -> u64
     requires { n ≤ 56 }
     ensures { (P : ℕ → Bool) → SetOf n P items → Reaches (order_of rows.now) n P result }
 {
-    let mut mask: u64 = 0;
+    let mut mask = 0;
     let mut rest = items;
     while 0 < rest {
-        let more = up_to(rows, lowest(rest));
-        mask = more | mask;
+        mask |= up_to(rows, lowest(rest));
         rest = others(rest);
     }
     mask

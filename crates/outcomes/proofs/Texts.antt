@@ -2,11 +2,11 @@
 use mathlib.Core.Path.{◌≡◌, refl, sym, ap, ◌∙◌, subst}
 use mathlib.Core.Logic.{⊎_elim}
 use mathlib.Core.List.{List}
-use Prim.Native.Nat.{ℕ, zero, suc, ◌+◌, ◌*◌, ◌-◌, ◌/◌, ◌≤◌, ◌<◌}
+use Prim.Native.Nat.{ℕ, zero, suc, ◌+◌, ◌*◌, ◌/◌, ◌≤◌, ◌<◌}
 use native.Mathlib.Nat.{mul-le-mul}
 use native.Mathlib.Omega.{arith}
 use lib.Dec.{eqb, lit<}
-use lib.ListN.{length, take, drop, get_or}
+use lib.ListN.{length, take, get_or}
 use lib.Seq.{length-take-le, get_or-take}
 use borrow.Author.Tests.{eqb-true, eqb-false}
 use Rattle.words.specs.Refusals.{first_code_of}
@@ -59,10 +59,10 @@ module _ (input : List ℕ) {bound size : ℕ} {a : Listed} {at : ℕ} {out : Li
       omega (arith, few, get_or-take 512 input 0 0 (lit< tt))
 
 -- the part of the buffer that holds the records
-pub records_part : (n : ℕ) (out : List ℕ) → 96 * n ≤ length out → records_in (length (take (96 * n - 0) (drop 0 out)) / 96) (take (96 * n - 0) (drop 0 out)) ≡ records_in n out
+pub records_part : (n : ℕ) (out : List ℕ) → 96 * n ≤ length out → records_in (length (take (96 * n) out) / 96) (take (96 * n) out) ≡ records_in n out
 records_part n out h =
-    let count : length (take (96 * n - 0) (drop 0 out)) / 96 ≡ n = omega (arith, length-take-le (96 * n - 0) out (omega arith)) in
-    ap (λ (k : ℕ). records_in k (take (96 * n - 0) out)) count ∙ records_take n (96 * n - 0) out (omega arith) (omega arith)
+    let count : length (take (96 * n) out) / 96 ≡ n = omega (arith, length-take-le (96 * n) out h) in
+    ap (λ (k : ℕ). records_in k (take (96 * n) out)) count ∙ records_take n (96 * n) out (omega arith) h
 
 -- the longest text
 pub longest : (procs n : ℕ) → procs ≤ 4 → n ≤ 682 → 38 + (53 * procs + 1) * n ≤ 145304

@@ -7,10 +7,13 @@ use Prim.Native.Nat.{ℕ, ◌+◌, ◌≤◌, ◌<◌}
 use native.Mathlib.Omega.{arith}
 use lib.Dec.{eqb, ltb}
 use lib.ListN.{get_or}
-use borrow.Author.Tests.{eqb-true, eq-eqb, lt-ltb, le-ltb}
+use borrow.Author.Tests.{eqb-true, eq-eqb, lt-ltb, le-ltb, ltb-true}
+use Rattle.std.proofs.lemmas.Bool.{false≢true, true≢false}
+use Rattle.std.proofs.Common.{Option, Some, None}
+use Rattle.std.specs.Option.{IfSome, is_some, unwrap_or}
 use Rattle.words.proofs.Bools.{decide, and_both, and_make, and_right, or_right}
 use Rattle.cases.specs.declared.Case.{Case}
-use Rattle.cases.proofs.Lowest.{lowest_is}
+use Rattle.cases.proofs.Lowest.{lowest_is, lowest_hit}
 use Rattle.rules.specs.Kinds.{writing, accesses, syncs}
 use Rattle.rules.specs.Order.{Order}
 use Rattle.rules.specs.State.{State, Action, kind_of}
@@ -47,6 +50,15 @@ module _ (c : Case) (n : ℕ) (acts : List ℕ) (s : State) (a : Acts c n acts s
   pub races_is : (x y : Entry) (meet free : Bool) → x ≡ entry_of (get_or acts j 0) → y ≡ entry_of (get_or acts k 0) → meet ≡ conflict (shown_entry c x) (shown_entry c y) → free ≡ unordered (order_of rows) j k → (meet && free) ≡ races s j k
   unfolding races
   races_is x y meet free ex ey m f = ap₂ (λ (x y : Bool). x && y) (m ∙ ap₂ (λ (u v : Entry). conflict (shown_entry c u) (shown_entry c v)) ex ey ∙ (λ i. conflict (sym ej i) (sym (action_at_lem c n acts s a k hk) i))) f ∙ ⊎_elim (λ h. ap (λ (x : Bool). conflict (s.actions j) (s.actions k) && x) (same_order h)) (λ h. rw h refl) (decide (conflict (s.actions j) (s.actions k)))
+
+-- a number below n that was found, and one that was not
+pub found : (r : Option ℕ) (n : ℕ) → IfSome r (λ k. k < n) → is_some r ≡ true → unwrap_or r n < n
+found (Some k) n h e = h
+found None n h e = absurd (false≢true e)
+
+pub lost : (r : Option ℕ) (n : ℕ) → is_some r ≡ false → n ≤ unwrap_or r n
+lost (Some k) n e = absurd (true≢false e)
+lost None n e = omega arith
 
 -- no number up to k passes
 none_more : (f : ℕ → Bool) (k : ℕ) → ((i : ℕ) → i < k → f i ≡ false) → f k ≡ false → (i : ℕ) → i < k + 1 → f i ≡ false
@@ -87,6 +99,11 @@ module _ (s : State) where
   pub unopened : (n : ℕ) → s.count ≡ n → Unopened n → n ≡ opener s
   unfolding opener
   unopened n e u = lowest_is s.count (λ i. ltb (partner s i) s.count) n (omega arith) u (λ h. absurd (omega arith))
+
+  -- the lowest with a partner has one
+  pub opened_meets : (j : ℕ) → j ≡ opener s → j < s.count → partner s j < s.count
+  unfolding opener
+  opened_meets j e h = ltb-true (partner s j) s.count (ap (λ (i : ℕ). ltb (partner s i) s.count) e ∙ lowest_hit s.count (λ i. ltb (partner s i) s.count) (omega (arith, e, h)))
 
   pub pair_found : (j k : ℕ) → j ≡ opener s → j < s.count → k ≡ partner s j → (j ≡ first_of_race s) × (k ≡ second_of_race s)
   pair_found j k e h q = let t = lt-ltb (opener s) s.count (omega arith) in (e ∙ sym (rw t), q ∙ ap (partner s) e ∙ sym (rw t))

@@ -1,8 +1,9 @@
 // The first race of a schedule.
 #![tactic(auto)]
 
-ghost use Rattle.std.specs.Prelude.{◌≡◌, ◌≤◌, ◌<◌};
+ghost use Rattle.std.specs.Prelude.{◌≡◌, ◌≤◌, ◌<◌, IfSome, unwrap_or};
 ghost use Rattle.cases.specs.declared.Case.{Case as TheCase};
+ghost use Rattle.rules.specs.Kinds.{kind, accesses as is_access, writing as is_write};
 ghost use Rattle.rules.specs.State.{State};
 ghost use Rattle.orders.specs.Rows.{order_of};
 ghost use Rattle.machine.specs.Shown.{shown_entry, orders_of, Acts};
@@ -11,10 +12,12 @@ ghost use Rattle.races.specs.Test.{conflict as conflict_of, unordered as unorder
 ghost use Rattle.racing.specs.Answer.{queued as queued_of, IsRace};
 ghost use Rattle.racing.specs.Given.{One, Two};
 
-use machine::Entry;
+use cases::Instr;
+use machine::{Entry, Machine};
+use replaying::Taken;
 
 // The code, the two actions, 255 where there is no race, the number of steps taken, the place of the instruction that the code names, else 255, and the
-// position that a block's code carries, 0 with any other.
+// position that a block's code carries, 0 with any other. 255 for none, no Option: `IsRace` reads it so, and `womm_race` hands it to C.
 #[derive(Clone, Copy)]
 pub struct Raced {
     pub code: u8,
@@ -25,25 +28,25 @@ pub struct Raced {
     pub position: usize,
 }
 
-// Two actions, both 255 where there is no race.
-#[derive(Clone, Copy)]
-struct Pair {
-    first: usize,
-    second: usize,
+// Whether an instruction is a read or a write.
+fn accesses(i: Instr) -> bool
+    ensures { result ≡ is_access (kind i) }
+{
+    matches!(i, Instr::Read(_, _) | Instr::Write(_, _))
+}
+
+// Whether it is a write.
+fn writes(i: Instr) -> bool
+    ensures { result ≡ is_write (kind i) }
+{
+    matches!(i, Instr::Write(_, _))
 }
 
 // Whether two entries are reads or writes of one location, at least one a write.
 fn conflict(a: Entry, b: Entry) -> bool
     ensures { (c : TheCase) → result ≡ conflict_of (shown_entry c a) (shown_entry c b) }
 {
-    let i = a.instr;
-    let j = b.instr;
-    let k = rules::kind_of(i);
-    let q = rules::kind_of(j);
-    let access = ((k == 1) | (k == 2)) & ((q == 1) | (q == 2));
-    let same = a.loc == b.loc;
-    let write = (k == 2) | (q == 2);
-    (access & same) & write
+    accesses(a.instr) && accesses(b.instr) && a.loc == b.loc && (writes(a.instr) || writes(b.instr))
 }
 
 // Whether actions j and k stand ordered neither way.
@@ -51,87 +54,69 @@ fn unordered(rows: &[u64; 56], j: usize, k: usize) -> bool
     requires { (j < 48) × (k < 48) }
     ensures { result ≡ unordered_of (order_of rows.now) j k }
 {
-    let there = orders::before(rows, 8 + j, 8 + k);
-    let back = orders::before(rows, 8 + k, 8 + j);
-    !there & !back
+    !orders::before(rows, 8 + j, 8 + k) && !orders::before(rows, 8 + k, 8 + j)
 }
 
 // Whether actions j and k race.
-fn races<'a>(acts: &'a [u64; 48], rows: &'a [u64; 56], issued: usize, j: usize, k: usize) -> bool
-    requires { Two issued j k }
-    ensures { (c : TheCase) (s : State) → Acts c issued acts.now s → s.orders ≡ orders_of c s.actions rows.now → Entries c issued acts.now → result ≡ races_of s j k }
+fn races(m: &Machine, j: usize, k: usize) -> bool
+    requires { Two m.now.issued j k }
+    ensures { (c : TheCase) (s : State) → Acts c m.now.issued m.now.acts s → s.orders ≡ orders_of c s.actions m.now.rows → Entries c m.now.issued m.now.acts → result ≡ races_of s j k }
 {
-    let a = machine::entry_at(acts, j);
-    let b = machine::entry_at(acts, k);
-    let meet = conflict(a, b);
-    let free = unordered(rows, j, k);
-    meet & free
+    let a = machine::entry_at(&m.acts, j);
+    let b = machine::entry_at(&m.acts, k);
+    conflict(a, b) && unordered(&m.rows, j, k)
 }
 
-// The lowest action after j that races with it; the number of the issued actions where none does.
-fn partner<'a>(acts: &'a [u64; 48], rows: &'a [u64; 56], issued: usize, j: usize) -> usize
-    requires { One issued j }
-    ensures { (c : TheCase) (s : State) → Acts c issued acts.now s → s.orders ≡ orders_of c s.actions rows.now → Entries c issued acts.now → result ≡ partner_of s j }
+// The lowest action after j that races with it.
+fn partner(m: &Machine, j: usize) -> Option<usize>
+    requires { One m.now.issued j }
+    ensures there { IfSome result (λ k. k < m.now.issued) }
+    ensures lowest { (c : TheCase) (s : State) → Acts c m.now.issued m.now.acts s → s.orders ≡ orders_of c s.actions m.now.rows → Entries c m.now.issued m.now.acts → unwrap_or result s.count ≡ partner_of s j }
 {
-    let mut k = j + 1;
-    while k < issued {
-        if races(acts, rows, issued, j, k) {
-            return k;
+    for k in j + 1..m.issued {
+        if races(m, j, k) {
+            return Some(k);
         }
-        k += 1;
     }
-    issued
+    None
 }
 
-// The lowest action that has a partner; the number of the issued actions where none has one.
-fn opener<'a>(acts: &'a [u64; 48], rows: &'a [u64; 56], issued: usize) -> usize
-    requires { issued ≤ 48 }
-    ensures { (c : TheCase) (s : State) → Acts c issued acts.now s → s.orders ≡ orders_of c s.actions rows.now → Entries c issued acts.now → result ≡ opener_of s }
+// The lowest action that has a partner.
+fn opener(m: &Machine) -> Option<usize>
+    requires { m.now.issued ≤ 48 }
+    ensures there { IfSome result (λ j. j < m.now.issued) }
+    ensures lowest { (c : TheCase) (s : State) → Acts c m.now.issued m.now.acts s → s.orders ≡ orders_of c s.actions m.now.rows → Entries c m.now.issued m.now.acts → unwrap_or result s.count ≡ opener_of s }
 {
-    let mut j: usize = 0;
-    while j < issued {
-        let k = partner(acts, rows, issued, j);
-        if k < issued {
-            return j;
+    for j in 0..m.issued {
+        if partner(m, j).is_some() {
+            return Some(j);
         }
-        j += 1;
     }
-    issued
+    None
 }
 
 // The first race of a machine.
-fn first<'a>(acts: &'a [u64; 48], rows: &'a [u64; 56], issued: usize) -> Pair
-    requires { issued ≤ 48 }
-    ensures { (c : TheCase) (s : State) → Acts c issued acts.now s → s.orders ≡ orders_of c s.actions rows.now → Entries c issued acts.now → (result.first ≡ first_of_race s) × (result.second ≡ second_of_race s) }
+fn first(m: &Machine) -> Option<(usize, usize)>
+    requires { m.now.issued ≤ 48 }
+    ensures { (c : TheCase) (s : State) → Acts c m.now.issued m.now.acts s → s.orders ≡ orders_of c s.actions m.now.rows → Entries c m.now.issued m.now.acts → ((unwrap_or result (255, 255)).0 ≡ first_of_race s) × ((unwrap_or result (255, 255)).1 ≡ second_of_race s) }
 {
-    let j = opener(acts, rows, issued);
-    if j < issued {
-        let k = partner(acts, rows, issued, j);
-        return Pair {
-            first: j,
-            second: k,
-        };
-    }
-    Pair {
-        first: 255,
-        second: 255,
-    }
+    let j = opener(m)?;
+    let k = partner(m, j)?;
+    Some((j, k))
 }
 
 // Whether a queue is not empty.
-fn queued(acts: &[u64; 48], issued: usize) -> bool
-    requires { issued ≤ 48 }
-    ensures { (c : TheCase) (s : State) → Acts c issued acts.now s → result ≡ queued_of s }
+fn queued(m: &Machine) -> bool
+    requires { m.now.issued ≤ 48 }
+    ensures { (c : TheCase) (s : State) → Acts c m.now.issued m.now.acts s → result ≡ queued_of s }
 {
-    let mut found = false;
-    let mut k: usize = 0;
-    while k < issued {
-        let e = machine::entry_at(acts, k);
-        let w = machine::queued(e, words::wide(e.proc));
-        found = w | found;
-        k += 1;
+    for k in 0..m.issued {
+        let e = machine::entry_at(&m.acts, k);
+        if machine::queued(e, e.proc as usize) {
+            return true;
+        }
     }
-    found
+    false
 }
 
 // What is answered with a code: no race, this many steps and this place.
@@ -153,28 +138,24 @@ fn refused(code: u8, steps: usize, place: u8, position: usize) -> Raced
 pub fn race(block: &[u8], schedule: &[u8]) -> Raced
     ensures { IsRace block.now schedule.now result }
 {
-    let read = cases::read_case(block);
-    let code = replaying::refusal(read.code, schedule.len(), 0, 0);
-    if code != 0 {
-        return refused(code, 0, 255, read.position);
-    }
-    let c = read.case;
-    let w = replaying::walk(c, schedule);
-    if w.code != 0 {
-        return refused(w.code, w.steps, w.place, 0);
-    }
-    let m = w.machine;
-    let issued = m.issued;
-    if queued(&m.acts, issued) {
-        return refused(14, w.steps, w.place, 0);
-    }
-    let pair = first(&m.acts, &m.rows, issued);
-    Raced {
-        code: 0,
-        first: pair.first,
-        second: pair.second,
-        steps: w.steps,
-        place: w.place,
-        position: 0,
+    match replaying::take_up(block, schedule, 0, 0) {
+        Err(r) => refused(r.code, r.steps, r.place, r.position),
+        Ok(Taken { walked: w, .. }) => {
+            if w.code != 0 {
+                refused(w.code, w.steps, w.place, 0)
+            } else if queued(&w.machine) {
+                refused(14, w.steps, w.place, 0)
+            } else {
+                let (first, second) = first(&w.machine).unwrap_or((255, 255));
+                Raced {
+                    code: 0,
+                    first,
+                    second,
+                    steps: w.steps,
+                    place: w.place,
+                    position: 0,
+                }
+            }
+        }
     }
 }

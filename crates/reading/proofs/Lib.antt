@@ -1,5 +1,4 @@
 pub mod Feeds
 pub mod Walking
-pub mod Taking
 pub mod Sums
 pub mod Answering

@@ -1,7 +1,7 @@
 -- The reader's walk over the lines of a text. Assumes nothing.
 use mathlib.Core.Path.{◌≡◌, refl, ap, sym, ◌∙◌, subst}
 use mathlib.Core.Logic.{⊎_elim}
-use mathlib.Core.Bool.{Bool, true, false, cond, false≢true}
+use mathlib.Core.Bool.{Bool, true, false, cond}
 use mathlib.Core.List.{List, [], ◌∷◌}
 use mathlib.Core.Option.{Option, none, some}
 use Prim.Native.Nat.{ℕ, suc, ◌+◌, ◌*◌, ◌-◌, ◌<◌, ◌≤◌}
@@ -15,11 +15,12 @@ use Rattle.texts.specs.Text.{spaced}
 use Rattle.lines.specs.Decimal.{digits_within}
 use Rattle.judging.specs.Heard.{Heard}
 use Rattle.judging.specs.Parse.{parts, words_in, value_from, parse, taken, took, walk, counted, judge, whole, verdict, answer_of, refused_at, accepted_at}
-use Rattle.drafting.specs.Sheet.{Shows, Outcome, Holds}
+use Rattle.drafting.specs.Sheet.{Shows, Holds}
 use Rattle.scanning.specs.Found.{Found, part}
-use Rattle.reading.specs.Walks.{Walk, Walks}
+use Rattle.reading.specs.Walks.{Walk}
 use Rattle.drafting.specs.declared.Sheet.{Sheet}
-use Rattle.drafting.specs.declared.Stepped.{Stepped}
+use Rattle.std.specs.Prelude.{Some, None}
+use Rattle.std.proofs.Common as std
 use Rattle.texts.specs.declared.TextRead.{TextRead}
 use Rattle.judging.proofs.Small.{none-some, same?}
 use Rattle.scanning.proofs.Scanning.{part_none}
@@ -27,30 +28,30 @@ use Rattle.reading.proofs.Feeds.{parts_at, parts_end, whole_at, whole-none, nil-
 use Rattle.judging.proofs.Right.{heard}
 
 -- The lines up to position at are taken: those that are left decide.
-pub record Going (t : List ℕ) (at n : ℕ) (begun : Bool) (s : Sheet) : Type 0 where
+pub record Going (t : List ℕ) (at n : ℕ) (sheet : std.Option Sheet) : Type 0 where
   pub draft : Option Draft
-  pub holds : Holds begun s draft
+  pub holds : Holds sheet draft
   pub inside : at ≤ length t
   pub few : 2 * n ≤ at + 2
   pub lines : took none (parts t) ≡ took draft (parts (drop at t))
   pub line : judge t ≡ walk draft n (parts (drop at t))
   pub end : whole t ≡ whole (drop at t)
 
-pub going_start : (t : List ℕ) (s : Sheet) → Going t 0 1 false s
-going_start t s = record { draft = none; holds = refl; inside = omega arith; few = omega arith; lines = refl; line = refl; end = refl }
+pub going_start : (t : List ℕ) → Going t 0 1 None
+going_start t = record { draft = none; holds = tt; inside = omega arith; few = omega arith; lines = refl; line = refl; end = refl }
 
 -- an empty line is not taken
 no_line : (o : Option Draft) → taken o [] ≡ none
 unfolding parse words_in value_from spaced digits_within
 no_line o = refl
 
-outcome_none : (r : Stepped) (o : Option Draft) → Outcome r o → r.ok ≡ false → o ≡ none
-outcome_none r none h q = refl
-outcome_none r (some d) h q = absurd (false≢true (sym q ∙ h.0))
+holds_none : (o : Option Draft) → Holds None o → o ≡ none
+holds_none none h = refl
+holds_none (some d) h = absurd h
 
-outcome_some : (r : Stepped) (o : Option Draft) → Outcome r o → r.ok ≡ true → (d : Draft) × (o ≡ some d) × Shows r.sheet d
-outcome_some r none h q = absurd (false≢true (sym h ∙ q))
-outcome_some r (some d) h q = (d, refl, h.1)
+holds_some : (s : Sheet) (o : Option Draft) → Holds (Some s) o → (d : Draft) × (o ≡ some d) × Shows s d
+holds_some s none h = absurd h
+holds_some s (some d) h = (d, refl, h)
 
 verdict_open : (w : Bool) (n : ℕ) (o : Option Draft) → w ≡ false → verdict w n o ≡ refused_at n
 verdict_open w n none h = refl
@@ -77,7 +78,7 @@ walk_line : (o r : Option Draft) (n : ℕ) (p : List ℕ) (l ps : List (List ℕ
 unfolding walk
 walk_line o r n p l ps h e = ap (walk o n) h ∙ ap (λ (r : Option Draft). counted n (λ d. walk (some d) (suc n) ps) r) e
 
-module _ (t : List ℕ) (at n : ℕ) (begun : Bool) (s : Sheet) (g : Going t at n begun s) where
+module _ (t : List ℕ) (at n : ℕ) (sheet : std.Option Sheet) (g : Going t at n sheet) where
   -- the last piece is not ended
   pub unended : (e : ℕ) → Found 10 t at e → length t ≤ e → at < length t → answer_of t ≡ refused_at n
   unended e f h l =
@@ -86,24 +87,24 @@ module _ (t : List ℕ) (at n : ℕ) (begun : Bool) (s : Sheet) (g : Going t at 
       answer_by t false n g.draft w (g.line ∙ walk-nil g.draft n (parts (drop at t)) z) (g.lines ∙ took-nil g.draft (parts (drop at t)) z) ∙ verdict_open false n g.draft refl
 
   -- a line is not taken
-  pub untaken : (e : ℕ) (r : Stepped) → Found 10 t at e → e < length t → Outcome r (taken g.draft (part at e t)) → r.ok ≡ false → answer_of t ≡ refused_at n
-  untaken e r f h o q =
+  pub untaken : (e : ℕ) → Found 10 t at e → e < length t → Holds None (taken g.draft (part at e t)) → answer_of t ≡ refused_at n
+  untaken e f h o =
       let z = parts_at (e - at) t at e refl h f in
-      let no = outcome_none r (taken g.draft (part at e t)) o q in
-      answer_by t (whole t) n none refl (g.line ∙ walk_line g.draft none n (part at e t) (parts (drop at t)) (parts (drop (e + 1) t)) z no) (g.lines ∙ took_line g.draft none (part at e t) (parts (drop at t)) (parts (drop (e + 1) t)) z no)
+      let no_draft = holds_none (taken g.draft (part at e t)) o in
+      answer_by t (whole t) n none refl (g.line ∙ walk_line g.draft none n (part at e t) (parts (drop at t)) (parts (drop (e + 1) t)) z no_draft) (g.lines ∙ took_line g.draft none (part at e t) (parts (drop at t)) (parts (drop (e + 1) t)) z no_draft)
 
   -- a line is taken
-  pub going_on : (e : ℕ) (r : Stepped) → Found 10 t at e → e < length t → Outcome r (taken g.draft (part at e t)) → r.ok ≡ true → Going t (e + 1) (n + 1) true r.sheet
-  going_on e r f h o q =
+  pub going_on : (e : ℕ) (s : Sheet) → Found 10 t at e → e < length t → Holds (Some s) (taken g.draft (part at e t)) → Going t (e + 1) (n + 1) (Some s)
+  going_on e s f h o =
       let z = parts_at (e - at) t at e refl h f in
-      let y = outcome_some r (taken g.draft (part at e t)) o q in
+      let y = holds_some s (taken g.draft (part at e t)) o in
       let lo = f.low in
       let fw = g.few in
       let more : (at ≡ e → ⊥) = λ (same : at ≡ e). none-some (sym (no_line g.draft) ∙ ap (taken g.draft) (sym (part_none at e t (omega arith))) ∙ y.1) in
       let far : at < e = ⊎_elim (λ same. absurd (more same)) (λ (other : at ≡ e → ⊥). lt_of at e lo other) (same? at e) in
       record {
         draft = some y.0;
-        holds = (refl, y.2);
+        holds = y.2;
         inside = omega arith;
         few = omega arith;
         lines = g.lines ∙ took_line g.draft (some y.0) (part at e t) (parts (drop at t)) (parts (drop (e + 1) t)) z y.1;
@@ -115,31 +116,32 @@ module _ (t : List ℕ) (at n : ℕ) (begun : Bool) (s : Sheet) (g : Going t at 
       lt_of a b h f = omega arith
 
   -- the end of the text
-  pub ended_all : length t ≤ at → Walks t n s begun
-  ended_all h =
+  ended : length t ≤ at → (o : Option Draft) → g.draft ≡ o → (took none (parts t) ≡ o) × (judge t ≡ n) × (whole t ≡ true)
+  ended h o e =
       let z : drop at t ≡ [] = drop_of_length-le t {i = at} h in
       let y : parts (drop at t) ≡ [] = nil-parts (drop at t) z in
-      fin g.draft g.holds (g.lines ∙ took-nil g.draft (parts (drop at t)) y) (g.line ∙ walk-nil g.draft n (parts (drop at t)) y) (g.end ∙ nil-whole (drop at t) z)
-    where
-      fin : (o : Option Draft) → Holds begun s o → took none (parts t) ≡ o → judge t ≡ n → whole t ≡ true → Walks t n s begun
-      fin none h e l w = subst (Walks t n s) (sym h) (answer_by t true n none w l e)
-      fin (some d) h e l w = subst (Walks t n s) (sym h.0) (record { draft = d; took = e; whole = w; line = l; shows = h.1 })
+      (g.lines ∙ took-nil g.draft (parts (drop at t)) y ∙ e, g.line ∙ walk-nil g.draft n (parts (drop at t)) y, g.end ∙ nil-whole (drop at t) z)
+
+pub ended_none : (t : List ℕ) (at n : ℕ) (sheet : std.Option Sheet) → Going t at n sheet → length t ≤ at → sheet ≡ None → answer_of t ≡ refused_at n
+ended_none t at n sheet g h e =
+    let all = ended t at n sheet g h none (holds_none g.draft (subst (λ (s : std.Option Sheet). Holds s g.draft) e g.holds)) in
+    answer_by t true n none all.2 all.1 all.0
+
+pub ended_some : (t : List ℕ) (at n : ℕ) (sheet : std.Option Sheet) (s : Sheet) → Going t at n sheet → length t ≤ at → sheet ≡ Some s → Walk t n s
+ended_some t at n sheet s g h e =
+    let y = holds_some s g.draft (subst (λ (s : std.Option Sheet). Holds s g.draft) e g.holds) in
+    let all = ended t at n sheet g h (some y.0) y.1 in
+    record { draft = y.0; took = all.0; whole = all.2; line = all.1; shows = y.2 }
 
 -- what is heard
 
 heard_as : (t : List ℕ) (r : TextRead) → answer_of t ≡ r → Heard t r
 heard_as t r e = subst (Heard t) e (heard t)
 
-walks_as : (t : List ℕ) (n : ℕ) (s : Sheet) (ok : Bool) {b : Bool} → ok ≡ b → Walks t n s ok → Walks t n s b
-walks_as t n s ok e w = subst (Walks t n s) e w
+pub hear_not : (t : List ℕ) (n : ℕ) (r : TextRead) → answer_of t ≡ refused_at n → r ≡ refused_at n → Heard t r
+hear_not t n r a q = heard_as t r (a ∙ sym q)
 
-pub hear_not : (t : List ℕ) (n : ℕ) (s : Sheet) (ok : Bool) (r : TextRead) → Walks t n s ok → ok ≡ false → r ≡ refused_at n → Heard t r
-hear_not t n s ok r w e q = let a = walks_as t n s ok {b = false} e w in heard_as t r (a ∙ sym q)
-
-module _ (t : List ℕ) (n : ℕ) (s : Sheet) (ok : Bool) (r : TextRead) (ws : Walks t n s ok) (yes : ok ≡ true) where
-  w : Walk t n s
-  w = walks_as t n s ok {b = true} yes ws
-
+module _ (t : List ℕ) (n : ℕ) (s : Sheet) (r : TextRead) (w : Walk t n s) where
   by_labels : (x : Bool) → leb w.draft.need w.draft.next ≡ x → answer_of t ≡ cond x (accepted_at n w.draft) (refused_at n)
   by_labels x f = answer_by t true n (some w.draft) w.whole w.line w.took ∙ ap (λ (x : Bool). cond x (accepted_at n w.draft) (refused_at n)) f
 

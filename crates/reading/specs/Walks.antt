@@ -1,5 +1,5 @@
 -- What the reader's walk over a text's lines leads to. Assumes nothing.
-use Rattle.std.specs.Prelude.{◌≡◌, Bool, true, false, List, ℕ}
+use Rattle.std.specs.Prelude.{◌≡◌, true, List, ℕ, Result, Ok, Err}
 use Rattle.std.proofs.Math.Option.{none, some}
 use Rattle.judging.specs.Draft.{Draft}
 use Rattle.judging.specs.Parse.{parts, took, judge, whole, answer_of, refused_at}
@@ -14,6 +14,7 @@ pub record Walk (t : List ℕ) (n : ℕ) (s : Sheet) : Type 0 where
   pub line : judge t ≡ n
   pub shows : Shows s draft
 
-abbrev pub Walks : List ℕ → ℕ → Sheet → Bool → Type 0
-Walks t n s false = answer_of t ≡ refused_at n
-Walks t n s true = Walk t n s
+-- The number behind the last line and the sheet, or the line that 17 names.
+abbrev pub Walks : List ℕ → Result (ℕ × Sheet) ℕ → Type 0
+Walks t (Ok r) = Walk t r.0 r.1
+Walks t (Err n) = answer_of t ≡ refused_at n

@@ -9,16 +9,8 @@ ghost use Rattle.texts.specs.Reading.{Reads};
 ghost use Rattle.reading.specs.Fills.{Fills};
 ghost use Rattle.reading.specs.Blocks.{Blocks};
 
-use drafting::{Sheet, nothing};
+use drafting::nothing;
 use texts::TextRead;
-
-// A text taken line by line: whether each line was taken and the last one ended, the first line that does not pass, the case so far.
-#[derive(Clone, Copy)]
-pub struct Walked {
-    pub ok: bool,
-    pub line: usize,
-    pub sheet: Sheet,
-}
 
 // What turning a text into a block answers: the code, the line that 17 or 19 names, whether the text had a usual bound that is not 0.
 #[derive(Clone, Copy)]
@@ -34,18 +26,15 @@ fn fill(text: &[u8], block: &mut [u8]) -> TextRead
     ensures { Fills text.now (length block.old) result block.new }
 {
     let heard = reader::hear(text);
-    let code = heard.code;
-    if code != 0 {
-        records::clear(block);
+    if heard.code != 0 {
+        block.fill(0);
         return heard;
     }
-    let case = heard.case;
-    let fault = cases::write_case(case, block);
-    let counts = case.counts;
+    let fault = cases::write_case(heard.case, block);
     if fault.code != 0 {
         return TextRead {
             code: 19,
-            line: unset::line_at(heard.line, &counts, fault.position),
+            line: unset::line_at(heard.line, &heard.case.counts, fault.position),
             usual: false,
             case: nothing(),
         };
@@ -53,8 +42,7 @@ fn fill(text: &[u8], block: &mut [u8]) -> TextRead
     TextRead {
         code: 0,
         line: 0,
-        usual: heard.usual,
-        case,
+        ..heard
     }
 }
 
@@ -71,26 +59,19 @@ pub fn text_to_block(text: &[u8], block: &mut [u8]) -> TextBlock
     ensures { Blocks text.now (length block.old) result block.new }
 {
     if block.len() == 512 {
-        let read = fill(text, block);
-        return TextBlock {
-            code: read.code,
-            line: read.line,
-            usual: read.usual,
-        };
-    }
-    records::clear(block);
-    let read = read_text(text);
-    let code = read.code;
-    if code != 0 {
-        return TextBlock {
+        let TextRead {
             code,
-            line: read.line,
-            usual: false,
-        };
+            line,
+            usual,
+            ..
+        } = fill(text, block);
+        return TextBlock { code, line, usual };
     }
+    block.fill(0);
+    let TextRead { code, line, .. } = read_text(text);
     TextBlock {
-        code: 1,
-        line: read.line,
+        code: if code != 0 { code } else { 1 },
+        line,
         usual: false,
     }
 }

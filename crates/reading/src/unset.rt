@@ -8,11 +8,8 @@ fn instrs_before(counts: &[u8], p: usize) -> usize
     ensures { (result ≡ instrs_before counts.now p) × (result ≤ 255 * p) }
 {
     let mut sum: usize = 0;
-    let mut i: usize = 0;
-    while i < p {
-        let count = words::wide(counts[i]);
-        sum += count;
-        i += 1;
+    for i in 0..p {
+        sum += counts[i] as usize;
     }
     sum
 }

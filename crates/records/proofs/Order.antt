@@ -1,121 +1,135 @@
--- Byte order: decided by the first byte that differs. Assumes nothing.
+-- Byte order: of byte strings of one length it is the order of the numbers that they are, first byte first. Assumes nothing.
 use mathlib.Core.Path.{◌≡◌, refl, sym, ap, ◌∙◌, subst}
-use mathlib.Core.Bool.{false}
-use mathlib.Core.List.{List, [], ◌∷◌}
-use Prim.Native.Nat.{ℕ, zero, suc, ◌+◌, ◌*◌, ◌≤◌, ◌<◌, suc-le-suc}
-use native.Mathlib.Nat.{zero-lt-suc, le_of_suc-le-suc}
+use mathlib.Core.Bool.{Bool, true, false, cond, ◌||◌, ◌&&◌}
+use mathlib.Core.List.{List, [], ◌∷◌, ◌++◌}
+use Prim.Native.Nat.{ℕ, suc, ◌+◌, ◌*◌, ◌≤◌, ◌<◌}
 use native.Mathlib.Omega.{arith}
+use lib.Seq.{length-take-le, get_or-take, get_or-drop}
 use native.Mathlib.Decide.{dec_lt}
-use lib.Dec.{ltb}
-use lib.ListN.{length, get_or}
+use lib.Dec.{ltb, eqb}
+use lib.ListN.{length, get_or, take, drop, take-append-drop, length-take, get_or-eq_default}
 use borrow.Author.Tests.{lt-ltb, le-ltb, eq-eqb, ne_eqb}
-use Rattle.words.proofs.Bools.{or_nothing}
+use Rattle.std.proofs.Common.{w64, Some, Option}
+use Rattle.std.specs.Ordering.{partial_lt, nat_cmp, is_some_and, is_lt, partial_ordering_then}
+use Rattle.std.specs.declared.cmp.Ordering.{Ordering}
+use Rattle.std.specs.declared.cmp.Ordering.TheVariants.{Less, Equal, Greater}
+use Rattle.std.specs.Cmp.Lexicographic.{slice_partial_cmp}
+use Rattle.std.specs.Int.{from_be_bytes}
+use Rattle.std.proofs.lemmas.Nat.{be_bytes_8}
 use Rattle.runs.specs.Listing.{below}
-use Rattle.records.specs.Order.{four_at, eight_at, Number}
 
 pub below_self : (a : List ℕ) → below a a ≡ false
 below_self [] = refl
 below_self (x ∷ xs) = rw (le-ltb x x (omega arith), eq-eqb x x refl) (below_self xs)
 
--- at i is the first byte that differs
-pub below_at : (i : ℕ) (a b : List ℕ) → ((k : ℕ) → k < i → get_or a k 0 ≡ get_or b k 0) → i < length a → i < length b →
-    (get_or a i 0 ≡ get_or b i 0 → ⊥) → ltb (get_or a i 0) (get_or b i 0) ≡ below a b
-below_at i [] b e l m d = absurd (omega arith)
-below_at i (x ∷ xs) [] e l m d = absurd (omega arith)
-below_at zero (x ∷ xs) (y ∷ ys) e l m d = rw (ne_eqb x y d) (sym (or_nothing (ltb x y)))
-below_at (suc i) (x ∷ xs) (y ∷ ys) e l m d =
-    let q : x ≡ y = e 0 (zero-lt-suc i) in
-    rw (le-ltb x y (omega arith), eq-eqb x y q) (below_at i xs ys (λ k h. e (suc k) (suc-le-suc h)) (le_of_suc-le-suc l) (le_of_suc-le-suc m) d)
+-- what stands in front of two strings: the same, or not
+pub below_behind : (x a b : List ℕ) → below (x ++ a) (x ++ b) ≡ below a b
+below_behind [] a b = refl
+below_behind (x ∷ xs) a b = rw (le-ltb x x (omega arith), eq-eqb x x refl) (below_behind xs a b)
 
--- x and y stand for the n bytes of a and b from position i on: they are the same where these are, and tell the order where these are the first to differ
-pub record Tells (a b : List ℕ) (i n x y : ℕ) : Type 0 where
-  pub same : x ≡ y → (k : ℕ) → i ≤ k → k < i + n → get_or a k 0 ≡ get_or b k 0
-  pub order : ((k : ℕ) → k < i → get_or a k 0 ≡ get_or b k 0) → (x ≡ y → ⊥) → ltb x y ≡ below a b
+pub below_front : (x y a b : List ℕ) → length x ≡ length y → (x ≡ y → ⊥) → below (x ++ a) (y ++ b) ≡ below x y
+below_front [] [] a b e d = absurd (d refl)
+below_front [] (y ∷ ys) a b e d = absurd (omega arith)
+below_front (x ∷ xs) [] a b e d = absurd (omega arith)
+below_front (x ∷ xs) (y ∷ ys) a b e d = elim (dec_lt x y) [
+  | yes l ↦ rw (lt-ltb x y l) refl
+  | no g ↦ elim (dec_lt y x) [
+    | yes l ↦ rw (ne_eqb x y (λ q. absurd (omega arith))) refl
+    | no f ↦ let q : x ≡ y = omega arith in rw (le-ltb x y (omega arith), eq-eqb x y q) (below_front xs ys a b (omega arith) (λ r. d (λ i. q i ∷ r i)))
+  ]
+]
 
-module _ (a b : List ℕ) (long : length a ≡ length b) where
-  digit_tells : (i : ℕ) → i < length a → Tells a b i 1 (get_or a i 0) (get_or b i 0)
-  digit_tells i h = record {
-    same = λ e k l m. let q : i ≡ k = omega arith in sym (ap (λ (j : ℕ). get_or a j 0) q) ∙ e ∙ ap (λ (j : ℕ). get_or b j 0) q;
-    order = λ e d. below_at i a b e h (omega arith) d;
-  }
+-- every number of the list is a byte
+abbrev pub Bytes : List ℕ → Type 0
+Bytes s = (k : ℕ) → get_or s k 0 < 256
 
-  -- a number before another, which is below m
-  module _ (m : ℕ) (lead : (x y u v : ℕ) → u < m → x < y → m * x + u < m * y + v) where
-    apart : (x y u v : ℕ) → u < m → v < m → m * x + u ≡ m * y + v → x ≡ y
-    apart x y u v hu hv e = elim (dec_lt x y) [
-      | yes l ↦ let q = lead x y u v hu l in absurd (omega arith)
-      | no g ↦ elim (dec_lt y x) [ yes l ↦ let q = lead y x v u hv l in absurd (omega arith) | no f ↦ omega arith ]
-    ]
+-- the number that bytes are behind another
+abbrev number : List ℕ → ℕ → ℕ
+number [] p = p
+number (x ∷ xs) p = number xs (256 * p + x)
 
-    ordered : (x y u v : ℕ) → u < m → v < m → (x ≡ y → ⊥) → ltb (m * x + u) (m * y + v) ≡ ltb x y
-    ordered x y u v hu hv d = elim (dec_lt x y) [
-      | yes l ↦ lt-ltb (m * x + u) (m * y + v) (lead x y u v hu l) ∙ sym (lt-ltb x y l)
-      | no g ↦
-          let l : y < x = omega arith in
-          let q = lead y x v u hv l in
-          le-ltb (m * x + u) (m * y + v) (omega arith) ∙ sym (le-ltb x y (omega arith))
-    ]
+lead : (x y : List ℕ) (p q : ℕ) → Bytes x → length x ≡ length y → p < q → number x p < number y q
+lead [] [] p q b e h = h
+lead [] (y ∷ ys) p q b e h = absurd (omega arith)
+lead (x ∷ xs) [] p q b e h = absurd (omega arith)
+lead (x ∷ xs) (y ∷ ys) p q b e h =
+    let low : x < 256 = b 0 in
+    lead xs ys (256 * p + x) (256 * q + y) (λ k. b (suc k)) (omega arith) (omega arith)
 
-    level : (x y u v : ℕ) → x ≡ y → ltb (m * x + u) (m * y + v) ≡ ltb u v
-    level x y u v e = let q : m * x ≡ m * y = ap (λ (z : ℕ). m * z) e in elim (dec_lt u v) [
-      | yes l ↦ lt-ltb (m * x + u) (m * y + v) (omega arith) ∙ sym (lt-ltb u v l)
-      | no g ↦ le-ltb (m * x + u) (m * y + v) (omega arith) ∙ sym (le-ltb u v (omega arith))
-    ]
+number_order : (x y : List ℕ) (p : ℕ) → Bytes x → Bytes y → length x ≡ length y → ltb (number x p) (number y p) ≡ below x y
+number_order [] [] p b c e = le-ltb p p (omega arith)
+number_order [] (y ∷ ys) p b c e = absurd (omega arith)
+number_order (x ∷ xs) [] p b c e = absurd (omega arith)
+number_order (x ∷ xs) (y ∷ ys) p b c e = elim (dec_lt x y) [
+  | yes l ↦
+      let h = lead xs ys (256 * p + x) (256 * p + y) (λ k. b (suc k)) (omega arith) (omega arith) in
+      rw (lt-ltb x y l) (lt-ltb (number xs (256 * p + x)) (number ys (256 * p + y)) h)
+  | no g ↦ elim (dec_lt y x) [
+    | yes l ↦
+        let h = lead ys xs (256 * p + y) (256 * p + x) (λ k. c (suc k)) (omega arith) (omega arith) in
+        rw (le-ltb x y (omega arith), ne_eqb x y (λ q. absurd (omega arith))) (le-ltb (number xs (256 * p + x)) (number ys (256 * p + y)) (omega arith))
+    | no f ↦
+        let q : x ≡ y = omega arith in
+        rw (le-ltb x y (omega arith), eq-eqb x y q) (ap (λ z. ltb (number xs (256 * p + z)) (number ys (256 * p + y))) q ∙ number_order xs ys (256 * p + y) (λ k. b (suc k)) (λ k. c (suc k)) (omega arith))
+  ]
+]
 
-    both_tell : (i n k x y u v : ℕ) → u < m → v < m → Tells a b i n x y → Tells a b (i + n) k u v → Tells a b i (n + k) (m * x + u) (m * y + v)
-    both_tell i n k x y u v hu hv front back = record {
-      same = λ e j l h.
-          let q = apart x y u v hu hv e in
-          let w : m * x ≡ m * y = ap (λ (z : ℕ). m * z) q in
-          let r : u ≡ v = omega arith in
-          elim (dec_lt j (i + n)) [ yes c ↦ front.same q j l c | no g ↦ back.same r j (omega arith) (omega arith) ];
-      order = λ before d. elim (dec_lt x y) [
-        | yes l ↦ ahead before (omega arith)
-        | no g ↦ elim (dec_lt y x) [
-          | yes l ↦ ahead before (omega arith)
-          | no f ↦ behind before d (omega arith)
-        ]
-      ];
-    }
-      where
-        ahead : ((j : ℕ) → j < i → get_or a j 0 ≡ get_or b j 0) → (x ≡ y → ⊥) → ltb (m * x + u) (m * y + v) ≡ below a b
-        ahead before d = ordered x y u v hu hv d ∙ front.order before d
+eight : (x : List ℕ) → length x ≡ 8 → from_be_bytes w64 x ≡ number x 0
+eight (a ∷ b ∷ c ∷ d ∷ e ∷ f ∷ g ∷ h ∷ []) q = omega arith
+eight x q = absurd (omega arith)
 
-        behind : ((j : ℕ) → j < i → get_or a j 0 ≡ get_or b j 0) → (m * x + u ≡ m * y + v → ⊥) → x ≡ y → ltb (m * x + u) (m * y + v) ≡ below a b
-        behind before d q =
-            let w : m * x ≡ m * y = ap (λ (z : ℕ). m * z) q in
-            level x y u v q
-            ∙ back.order (λ j h. elim (dec_lt j i) [ yes c ↦ before j c | no g ↦ front.same q j (omega arith) h ]) (λ e. d (omega arith))
+take_bytes : (n : ℕ) (a : List ℕ) → Bytes a → Bytes (take n a)
+take_bytes n a b k = elim (dec_lt k n) [
+  | yes l ↦ rw (get_or-take n a k 0 l) (b k)
+  | no g ↦
+      let h : length (take n a) ≤ k = simp length-take (omega arith) in
+      rw (get_or-eq_default (take n a) 0 h) (omega arith)
+]
 
-  module _ (bytes : (k : ℕ) → (get_or a k 0 < 256) × (get_or b k 0 < 256)) where
-    -- what n bytes tell, and the one after them
-    more_tells : (i n x y : ℕ) → i + n < length a → Tells a b i n x y → Tells a b i (n + 1) (256 * x + get_or a (i + n) 0) (256 * y + get_or b (i + n) 0)
-    more_tells i n x y h front =
-        both_tell 256 (λ x y u v hu l. omega arith) i n 1 x y (get_or a (i + n) 0) (get_or b (i + n) 0) (bytes (i + n)).0 (bytes (i + n)).1 front (digit_tells (i + n) h)
+pub drop_bytes : (n : ℕ) (a : List ℕ) → Bytes a → Bytes (drop n a)
+drop_bytes n a b k = rw (get_or-drop n a k 0) (b (n + k))
 
-    four_tells : (i : ℕ) → i + 4 ≤ length a → Tells a b i 4 (four_at a i) (four_at b i)
-    four_tells i h =
-        more_tells i 3 _ _ (omega arith) (more_tells i 2 _ _ (omega arith) (more_tells i 1 _ _ (omega arith) (digit_tells i (omega arith))))
+-- the first eight bytes of a string, and what is left of it
+abbrev pub Eight : List ℕ → List ℕ → List ℕ → Type 0
+Eight a x xs = (x ≡ take 8 a) × (xs ≡ drop 8 a) × (length xs + 8 ≡ length a)
 
-    four_low : (s : List ℕ) (i : ℕ) → ((k : ℕ) → get_or s k 0 < 256) → four_at s i < 4294967296
-    four_low s i low =
-        let h = low i in
-        let j = low (i + 1) in
-        let k = low (i + 2) in
-        let l = low (i + 3) in
-        omega arith
+module _ (a x xs b y ys : List ℕ) (bytes-a : Bytes a) (bytes-b : Bytes b) (p : Eight a x xs) (q : Eight b y ys) where
+  bytes-x : Bytes x
+  bytes-x = subst Bytes (sym p.0) (take_bytes 8 a bytes-a)
 
-    eight_tells : (i : ℕ) → i + 8 ≤ length a → Tells a b i 8 (eight_at a i) (eight_at b i)
-    eight_tells i h =
-        both_tell 4294967296 (λ x y u v hu l. omega arith) i 4 4 (four_at a i) (four_at b i) (four_at a (i + 4)) (four_at b (i + 4)) (four_low a (i + 4) (λ k. (bytes k).0)) (four_low b (i + 4) (λ k. (bytes k).1)) (four_tells i (omega arith)) (four_tells (i + 4) (omega arith))
+  bytes-y : Bytes y
+  bytes-y = subst Bytes (sym q.0) (take_bytes 8 b bytes-b)
 
--- two eights, as the code reads them
-module _ {a b : List ℕ} {i x y : ℕ} (long : length a ≡ length b) (room : i + 8 ≤ length a) (p : Number a (eight_at a i) 18446744073709551616 x) (q : Number b (eight_at b i) 18446744073709551616 y) where
-  tells : Tells a b i 8 x y
-  tells = subst (λ (v : ℕ). Tells a b i 8 v y) (sym p.is) (subst (λ (v : ℕ). Tells a b i 8 (eight_at a i) v) (sym q.is) (eight_tells a b long (λ k. (p.bytes k, q.bytes k)) i room))
+  long-x : length x ≡ 8
+  long-x = ap length p.0 ∙ length-take-le 8 a (let e = p.2 in omega arith)
 
-  pub eight_order : ((k : ℕ) → k < i → get_or a k 0 ≡ get_or b k 0) → (x ≡ y → ⊥) → ltb x y ≡ below a b
-  eight_order = tells.order
+  long-y : length y ≡ 8
+  long-y = ap length q.0 ∙ length-take-le 8 b (let e = q.2 in omega arith)
 
-  pub eight_same : ((k : ℕ) → k < i → get_or a k 0 ≡ get_or b k 0) → x ≡ y → (k : ℕ) → k < i + 8 → get_or a k 0 ≡ get_or b k 0
-  eight_same before e k h = elim (dec_lt k i) [ yes l ↦ before k l | no g ↦ tells.same e k (omega arith) h ]
+  whole : below (x ++ xs) (y ++ ys) ≡ below a b
+  whole = (λ i. below (p.0 i ++ p.1 i) (q.0 i ++ q.1 i)) ∙ (λ i. below (take-append-drop 8 a i) (take-append-drop 8 b i))
+
+  pub eights_same : from_be_bytes w64 x ≡ from_be_bytes w64 y → below xs ys ≡ below a b
+  eights_same e =
+      let same : x ≡ y = sym (be_bytes_8 x _ long-x bytes-x refl) ∙ be_bytes_8 y _ long-y bytes-y e in
+      sym (ap (λ z. below (z ++ xs) (y ++ ys)) same ∙ below_behind y xs ys) ∙ whole
+
+  pub eights_differ : (from_be_bytes w64 x ≡ from_be_bytes w64 y → ⊥) → ltb (from_be_bytes w64 x) (from_be_bytes w64 y) ≡ below a b
+  eights_differ d =
+      (λ i. ltb (eight x long-x i) (eight y long-y i))
+      ∙ number_order x y 0 bytes-x bytes-y (long-x ∙ sym long-y)
+      ∙ sym (below_front x y xs ys (long-x ∙ sym long-y) (λ e. d (ap (λ z. from_be_bytes w64 z) e)))
+      ∙ whole
+
+-- the comparison of std
+first_decides : (l e : Bool) (r : Option Ordering) → is_some_and is_lt (partial_ordering_then (Some (cond l Less (cond e Equal Greater))) r) ≡ l || (e && is_some_and is_lt r)
+first_decides true e r = refl
+first_decides false true r = refl
+first_decides false false r = refl
+
+pub less : (a b : List ℕ) → partial_lt (slice_partial_cmp (λ x y. Some (nat_cmp x y))) a b ≡ below a b
+less [] [] = refl
+less [] (y ∷ ys) = refl
+less (x ∷ xs) [] = refl
+less (x ∷ xs) (y ∷ ys) =
+    first_decides (ltb x y) (eqb x y) (slice_partial_cmp (λ x y. Some (nat_cmp x y)) xs ys) ∙ ap (λ z. ltb x y || (eqb x y && z)) (less xs ys)

@@ -5,8 +5,8 @@ ghost use Rattle.std.specs.Prelude.{◌≤◌, length};
 ghost use Rattle.lines.specs.Laid.{Printed};
 ghost use Rattle.replay.specs.Said.{line_of, said};
 
+use inputs::read_full;
 use std::io;
-use std::io::{Read, Stdin};
 
 // The line of a replay.
 fn report(block: &[u8], schedule: &[u8], text: &mut [u8]) -> usize
@@ -24,23 +24,10 @@ fn answer(input: &[u8], text: &mut [u8]) -> usize
     ensures { Printed (said input.now) text.old text.new result }
 {
     if input.len() < 512 {
-        return report(input, b"", text);
+        report(input, b"", text)
+    } else {
+        report(&input[..512], &input[512..], text)
     }
-    report(&input[0..512], &input[512..], text)
-}
-
-// Reads until the bytes are full, the input ends or a read fails. The number of bytes that were read.
-fn read_full(input: &mut Stdin, bytes: &mut [u8]) -> usize
-    ensures { result ≤ length bytes.new }
-{
-    let mut done = 0;
-    while done < bytes.len() {
-        match input.read(&mut bytes[done..]) {
-            Ok(n) if n > 0 => done += n,
-            _ => break,
-        }
-    }
-    done
 }
 
 // The buffer is longer than a block and the longest schedule: input that fills it has a schedule that is too long, however much follows.

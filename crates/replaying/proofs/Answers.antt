@@ -15,7 +15,7 @@ use Rattle.cases.specs.declared.Case.{Case}
 use Rattle.cases.specs.declared.CaseRead.{CaseRead}
 use Rattle.cases.specs.Block.{refusals, case_of, read_of}
 use Rattle.cases.specs.Formed.{Twins}
-use Rattle.cases.proofs.Told.{read_sound, read_code, accepted_position}
+use Rattle.cases.proofs.Told.{read_sound, read_code, read_position, read_as, accepted_position}
 use Rattle.cases.proofs.Twins.{twins_code, twins_case, twins_position}
 use Rattle.runs.specs.Replay.{replay}
 use Rattle.rules.specs.State.{initial}
@@ -27,7 +27,8 @@ use Rattle.machine.proofs.Fits.{fit}
 use Rattle.replaying.specs.declared.Replayed.{Replayed}
 use Rattle.replaying.specs.declared.Walked.{Walked}
 use Rattle.replaying.specs.Answer.{Question, Answer, length_refusals, replay_refusals, answer_of, answer_from, asked, IsAnswer, result, IsReplay}
-use Rattle.replaying.specs.Inner.{IsWalk}
+use Rattle.replaying.specs.declared.Taken.{Taken}
+use Rattle.replaying.specs.Inner.{IsWalk, IsTaken, IsRefused, Walking}
 
 -- codes 8 and 9
 module _ (wanted n size : ℕ) where
@@ -60,7 +61,7 @@ module _ (Q : Question) (block schedule : List ℕ) (size : ℕ) where
   abbrev pub all : ℕ
   all = cond (eqb own 0) (first_code_of (length_refusals Q.size (length schedule) size)) own
 
-  codes_are : first_code_of (replay_refusals Q.size block schedule size) ≡ all
+  pub codes_are : first_code_of (replay_refusals Q.size block schedule size) ≡ all
   unfolding replay_refusals
   codes_are = append_first (refusals block) (length_refusals Q.size (length schedule) size) refl
 
@@ -118,6 +119,45 @@ module _ (Q : Question) (block schedule : List ℕ) (size : ℕ) where
           bytes = f ∙ ap (Q.bytes (case_of block)) v.shows ∙ sym (ap (λ (a : Answer). a.bytes) asked_is);
           position = sym (accepted_position block own-none);
         }
+
+  -- the same from what `take_up` says
+  pub refused_answer : (r : Replayed) (out : List ℕ) → IsRefused block schedule size Q.size r → out ≡ replicate size 0 → IsAnswer Q block schedule size r out
+  refused_answer r out u e =
+      subst (λ (x : Replayed). IsAnswer Q block schedule size x out) (λ j. record { code = r.code; steps = sym u.steps j; place = sym u.place j; position = r.position })
+      (refused r.code r.position out (u.code ∙ codes_are) u.some u.position e)
+
+  none : first_code_of (replay_refusals Q.size block schedule size) ≡ 0 → 0 ≡ all
+  none h = sym h ∙ codes_are
+
+  pub taken_size : (t : Taken) → IsTaken block schedule size Q.size t → size ≡ Q.size
+  taken_size t u = right_size (none u.accepted)
+
+  pub taken_answer : (t : Taken) (r : Replayed) (out : List ℕ) → IsTaken block schedule size Q.size t → r ≡ record { code = t.walked.code; steps = t.walked.steps; place = t.walked.place; position = 0 } → out ≡ Q.bytes t.case (shown t.case t.walked.machine) → IsAnswer Q block schedule size r out
+  taken_answer t r out u h e = subst (λ (x : Replayed). IsAnswer Q block schedule size x out) (sym h) (taken (none u.accepted) t.case t.walked out u.case u.walk e)
+
+-- what `take_up` says, from what it read and the code that `refusal` gives
+module _ (block schedule : List ℕ) (size wanted n : ℕ) (r : CaseRead) (read : r ≡ read_of block) (is : n ≡ cond (eqb r.code 0) (first_code_of (length_refusals wanted (length schedule) size)) r.code) where
+  abbrev sized : Question
+  sized = record { size = wanted; bytes = λ c s. [] }
+
+  first_is : n ≡ first_code_of (replay_refusals wanted block schedule size)
+  first_is = code_is sized block schedule size n r read is ∙ sym (codes_are sized block schedule size)
+
+  pub refused_up : (n ≡ 0 → ⊥) → IsRefused block schedule size wanted (record { code = n; steps = 0; place = 255; position = r.position })
+  refused_up z = record { code = first_is; some = z; steps = refl; place = refl; position = read_position block read }
+
+  module _ (z : n ≡ 0) where
+    zero-code : 0 ≡ all sized block schedule size
+    zero-code = sym z ∙ code_is sized block schedule size n r read is
+
+    case_is : r.case ≡ case_of block
+    case_is = read_as block read (own-none sized block schedule size zero-code)
+
+    pub walking : Walking r.case schedule
+    walking = record { fit = subst Fit (sym case_is) (case_fit sized block schedule size zero-code); whole = in_fours sized block schedule size zero-code }
+
+    pub taken_up : (w : Walked) → IsWalk r.case (steps_of schedule) w → IsTaken block schedule size wanted (record { case = r.case; walked = w })
+    taken_up w u = record { accepted = sym first_is ∙ z; case = case_is; walk = u }
 
 -- At most one answer and one content of the buffer are right.
 pub answer_unique : (Q : Question) (block schedule : List ℕ) (size : ℕ) (r r' : Replayed) (out out' : List ℕ) → IsAnswer Q block schedule size r out → IsAnswer Q block schedule size r' out' → (r ≡ r') × (out ≡ out')

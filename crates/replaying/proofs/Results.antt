@@ -1,12 +1,13 @@
 -- The bytes of a result by their places. Assumes nothing.
 use mathlib.Core.Path.{◌≡◌, refl, sym, ◌∙◌, ap}
-use mathlib.Core.Bool.{Bool, cond}
+use mathlib.Core.Bool.{Bool, true, false, cond}
 use mathlib.Core.Logic.{⊎_elim}
 use mathlib.Core.List.{List, ◌++◌}
 use Prim.Native.Nat.{ℕ, ◌+◌, ◌-◌, ◌%◌, ◌≤◌, ◌<◌}
 use native.Mathlib.Numerals.{add-one}
 use native.Mathlib.Omega.{arith}
 use native.Mathlib.Decide.{dec_lt}
+use mir.Val.{bool_byte}
 use lib.Dec.{eqb, ltb}
 use lib.ListN.{length, get_or, length-append, get_or-append}
 use lib.Seq.{get_or-append-add, ext_get_or}
@@ -24,9 +25,13 @@ pub many_none : (f : ℕ → Bool) → 0 ≡ how_many 0 f
 unfolding how_many
 many_none f = refl
 
-pub many_next : (n : ℕ) (f : ℕ → Bool) (more x : ℕ) (b : Bool) → b ≡ f n → more ≡ cond b 1 0 → x ≡ how_many n f → more + x ≡ how_many (n + 1) f
+one_where : (b : Bool) → bool_byte b ≡ cond b 1 0
+one_where true = refl
+one_where false = refl
+
+pub many_next : (n : ℕ) (f : ℕ → Bool) (more x : ℕ) (b : Bool) → b ≡ f n → more ≡ bool_byte b → x ≡ how_many n f → x + more ≡ how_many (n + 1) f
 unfolding how_many
-many_next n f more x b hb hm hx = rw (add-one, hm, hb, hx)
+many_next n f more x b hb hm hx = rw (add-one, hm, one_where b, hb, hx) (omega arith)
 
 -- a place counter's byte is the byte that the machine keeps
 pub place_byte_lem : (n : ℕ) → n ≡ place_byte (place_of n)

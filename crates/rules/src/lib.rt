@@ -6,7 +6,7 @@ ghost use Rattle.rules.specs.Kinds.{kind, evaluate};
 
 use cases::{Expr, Instr};
 
-// The kind of an instruction, as a number.
+// The kind of an instruction, as a number and no enum: `kind` of the specs is one.
 pub fn kind_of(i: Instr) -> u8
     ensures { (result ≡ kind i) × (result < 8) }
 {
@@ -26,14 +26,14 @@ pub fn kind_of(i: Instr) -> u8
 fn difference(x: u16, y: u16) -> u16
     ensures { result ≡ (x + (65536 - y)) % 65536 }
 {
-    std::num::wrapping_sub_u16(x, y)
+    x.wrapping_sub(y)
 }
 
 // 1 if x equals y, else 0.
 fn equal(x: u16, y: u16) -> u16
     ensures { result ≡ (if nat_eq x y then 1 else 0) }
 {
-    if x == y { 1 } else { 0 }
+    u16::from(x == y)
 }
 
 // The value of an expression whose registers hold x and y.
@@ -42,7 +42,7 @@ pub fn evaluated(e: Expr, x: u16, y: u16) -> u16
 {
     match e {
         Expr::Constant(n) => n,
-        Expr::Sum(_, _) => std::num::wrapping_add_u16(x, y),
+        Expr::Sum(_, _) => x.wrapping_add(y),
         Expr::Difference(_, _) => difference(x, y),
         Expr::Equal(_, _) => equal(x, y),
     }

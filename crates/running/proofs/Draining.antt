@@ -1,10 +1,9 @@
 -- The machine after a drain, and before the first step. Assumes nothing.
 use mathlib.Core.Path.{◌≡◌, refl, sym, ◌∙◌, ap, ap₂, fun_ext}
-use mathlib.Core.Logic.{◌⊎◌, ⊎_elim}
-use mathlib.Core.Option.{some}
+use mathlib.Core.Logic.{⊎_elim}
 use mathlib.Core.Bool.{true, false≢true}
 use mathlib.Core.List.{List, ◌∷◌}
-use Prim.Native.Nat.{ℕ, zero, suc, ◌+◌, ◌*◌, ◌-◌, ◌/◌, ◌%◌, ◌≤◌, ◌<◌}
+use Prim.Native.Nat.{ℕ, zero, suc, ◌+◌, ◌*◌, ◌/◌, ◌%◌, ◌≤◌, ◌<◌}
 use native.Mathlib.Omega.{arith}
 use native.Mathlib.Decide.{dec_lt}
 use lib.ListN.{length, get_or, set, replicate, length-set, length-replicate}
@@ -13,21 +12,20 @@ use Rattle.words.specs.Small.{put}
 use Rattle.words.proofs.Bools.{below_cases}
 use Rattle.cases.specs.declared.Case.{Case}
 use Rattle.cases.specs.Case.{preset_of}
-use Rattle.machine.specs.declared.Value.{Value}
-use Rattle.machine.specs.Shown.{shown_value, holder_of}
+use Rattle.machine.specs.Shown.{Value, holder_of}
 use Rattle.machine.specs.Fit.{Fit}
 use Rattle.machine.proofs.Stores.{set_put, set_all}
 use Rattle.boards.specs.declared.Buffering.{Buffering}
 use Rattle.boards.specs.Board.{opening}
 use Rattle.boards.specs.Drain.{drained}
 use Rattle.boards.specs.Machine.{drain, moved}
-use Rattle.boards.specs.Apart.{oldest_at, Placed}
+use Rattle.boards.specs.Apart.{Placed}
 use Rattle.boards.proofs.Accepted.{can_drain}
 use Rattle.boards.proofs.Buffers.{same-board, put2_cases}
 use Rattle.stores.specs.declared.Logged.{Logged}
 use Rattle.running.specs.declared.Arrays.{Arrays}
 use Rattle.stores.specs.Log.{blank, sits_in, store_of, gathered, buffer_of}
-use Rattle.running.specs.Shown.{unknown, values_of, shown}
+use Rattle.running.specs.Shown.{values_of, shown}
 use Rattle.stores.specs.Log.{Oldest}
 use Rattle.running.specs.Valid.{Valid}
 use Rattle.running.specs.Given.{Draining, Preset}
@@ -82,9 +80,6 @@ module _ (k : Buffering) (c : Case) (s : Arrays) (p b j : ℕ) (given : Draining
           ⊎_elim (λ h. ap₂ (buffer_of k after s.logged) h.0 h.1 ∙ sym h.2)
           (λ h. buffer_other k s.log s.logged j oldest-low room p b sits q m h.0 ∙ sym h.1)
           (put2_cases (buffer_of k s.log s.logged) p b (buffer_of k after s.logged p b) q m)
-
-  pub oldest_here : oldest_at ((shown k c s).buffers p b) ≡ some (get_or s.log j blank).loc
-  oldest_here = ap oldest_at (buffer_less k s.log s.logged j oldest-low (omega (arith, v.logged, v.log_long)) p b (O.found oldest-low) O.before)
 
   pub drain_valid : Valid c (drained_by s j)
   drain_valid =

@@ -1,13 +1,13 @@
 -- The operands of an instruction, and whether it is barred, in the arrays and on the board. Assumes nothing.
 use mathlib.Core.Path.{◌≡◌, refl, sym, ◌∙◌, ap}
+use mathlib.Core.Logic.{◌⊎◌, ⊎_elim}
 use mathlib.Core.Bool.{Bool, true, false, not, ◌&&◌, ◌||◌}
 use mathlib.Core.List.{List, [], ◌∷◌, map}
 use mathlib.Core.Option.{Option, none}
-use Prim.Native.Nat.{ℕ, ◌%◌, ◌≤◌, ◌<◌}
-use native.Mathlib.Omega.{arith}
-use lib.Dec.{eqb, ltb, leb}
+use Prim.Native.Nat.{ℕ, ◌≤◌, ◌<◌}
+use lib.Dec.{ltb, leb}
 use lib.ListN.{length, get_or}
-use borrow.Author.Tests.{lt-ltb, lt-leb, le-leb, ne_eqb}
+use borrow.Author.Tests.{lt-ltb, lt-leb, le-leb, leb-false}
 use Rattle.words.specs.Small.{is_none, or_zero, any, some_below}
 use Rattle.cases.specs.declared.Case.{Case}
 use Rattle.cases.specs.declared.Instr.{Instr}
@@ -17,8 +17,7 @@ use Rattle.cases.specs.declared.Expr.TheVariants.{Constant, Sum, Difference, Equ
 use Rattle.cases.specs.Case.{count_of, instr_at}
 use Rattle.rules.specs.Kinds.{kind, reads, reading, writing, accesses, syncs}
 use Rattle.rules.specs.Commit.{barred}
-use Rattle.machine.specs.declared.Value.{Value}
-use Rattle.machine.specs.Shown.{holder_of}
+use Rattle.machine.specs.Shown.{Value, holder_of}
 use Rattle.machine.specs.Fit.{Fine, FineExpr}
 use Rattle.boards.specs.declared.Buffering.{Buffering}
 use Rattle.boards.specs.declared.Buffering.TheVariants.{Direct, Shared, Split}
@@ -26,11 +25,12 @@ use Rattle.boards.specs.Board.{slot, filled}
 use Rattle.boards.specs.Run.{operand, bars}
 use Rattle.boards.specs.Machine.{run, allowed}
 use Rattle.boards.specs.Quiet.{quiet}
-use Rattle.boards.proofs.Accepted.{can_run, access_low, write_accesses}
+use Rattle.boards.proofs.Accepted.{can_run}
 use Rattle.running.specs.declared.Arrays.{Arrays}
 use Rattle.stores.specs.Log.{buffer_of}
 use Rattle.running.specs.Shown.{values_of, shown}
-use Rattle.stores.specs.Log.{buffer_by}
+use Rattle.std.specs.Prelude.{is_some}
+use Rattle.stores.specs.Log.{slot_by}
 use Rattle.running.specs.Steps.{operand_by, first_by, second_by, unready_by, bars_by}
 use Rattle.running.specs.Given.{Glancing}
 
@@ -120,33 +120,47 @@ module _ (k : Buffering) (c : Case) (s : Arrays) (p : ℕ) where
       keep true = refl
       keep false = refl
 
--- a store that enters no buffer
-slot_test : (k : Buffering) (l : ℕ) → l < 8 → eqb (buffer_by k (l % 256)) 8 ≡ is_none (slot k l)
-slot_test Direct l h = refl
-slot_test Shared l h = refl
-slot_test Split l h = ne_eqb (l % 256) 8 (λ e. omega arith)
+-- the kinds of instructions
 
--- a quiet instruction that may run
-module _ (k : Buffering) (c : Case) (s : Arrays) (p : ℕ) (given : Glancing k c s p) (f : Fine (instr_at c p (get_or s.places p 0))) where
-  pub address_is : or_zero (first_by s.values p (instr_at c p (get_or s.places p 0))) ≡ operand k c (shown k c s) p 0
-  address_is = ap or_zero (first_is c s.values p given.proc (instr_at c p (get_or s.places p 0)) f)
+pub looks : {i : Instr} → ((a b : ℕ) × (i ≡ Read a b)) ⊎ (((a : ℕ) × (i ≡ Acquire a)) ⊎ ((a : ℕ) × (i ≡ Release a))) → (reading (kind i) || syncs (kind i)) ≡ true
+looks h = ⊎_elim (λ e. rw e.2) (⊎_elim (λ e. rw e.1) (λ e. rw e.1)) h
 
-  pub quiet_is :
-      (not (reading (kind (instr_at c p (get_or s.places p 0))) || syncs (kind (instr_at c p (get_or s.places p 0))))
-      && not (writing (kind (instr_at c p (get_or s.places p 0))) && eqb (buffer_by k (or_zero (first_by s.values p (instr_at c p (get_or s.places p 0))) % 256)) 8))
-      ≡ quiet k c (shown k c s) p
+pub stays : (i : Instr) → ((a b : ℕ) → i ≡ Read a b → ⊥) → ((a b : ℕ) → i ≡ Write a b → ⊥) → ((a : ℕ) → i ≡ Acquire a → ⊥) → ((a : ℕ) → i ≡ Release a → ⊥)
+    → ((reading (kind i) || syncs (kind i)) ≡ false) × (writing (kind i) ≡ false)
+stays Empty r w a l = (refl, refl)
+stays (Read d x) r w a l = absurd (r d x refl)
+stays (Write x y) r w a l = absurd (w x y refl)
+stays (Local d e) r w a l = (refl, refl)
+stays (Branch x y) r w a l = (refl, refl)
+stays (Goto y) r w a l = (refl, refl)
+stays (Acquire x) r w a l = absurd (a x refl)
+stays (Release x) r w a l = absurd (l x refl)
+
+-- the next instruction, which may run
+module _ (k : Buffering) (c : Case) (s : Arrays) (p : ℕ) (given : Glancing k c s p) where
+  abbrev next : Instr
+  next = instr_at c p (get_or s.places p 0)
+
+  pub place-low : get_or s.places p 0 < count_of c p
+  place-low = leb-false (count_of c p) (get_or s.places p 0) (can_run k c (shown k c s) p given.free).inside
+
+  pub address_is : or_zero (first_by s.values p next) ≡ operand k c (shown k c s) p 0
+  address_is = ap or_zero (first_is c s.values p given.proc next (given.valid.fit.fine p (get_or s.places p 0) given.proc place-low))
+
+  -- whether it is quiet
+  pub quiet_look : (reading (kind next) || syncs (kind next)) ≡ true → false ≡ quiet k c (shown k c s) p
   unfolding quiet
-  quiet_is = by_write (writing (kind i)) refl
-    where
-      i : Instr
-      i = instr_at c p (get_or s.places p 0)
+  quiet_look h = rw h
 
-      by_write : (w : Bool) → writing (kind (instr_at c p (get_or s.places p 0))) ≡ w
-          → (not (reading (kind (instr_at c p (get_or s.places p 0))) || syncs (kind (instr_at c p (get_or s.places p 0)))) && not (w && eqb (buffer_by k (or_zero (first_by s.values p (instr_at c p (get_or s.places p 0))) % 256)) 8))
-          ≡ (not (reading (kind (instr_at c p (get_or s.places p 0))) || syncs (kind (instr_at c p (get_or s.places p 0)))) && not (w && is_none (slot k (operand k c (shown k c s) p 0))))
-      by_write false e = refl
-      by_write true e =
-          let near : operand k c (shown k c s) p 0 < c.locs = access_low k c (shown k c s) p (can_run k c (shown k c s) p given.free) (write_accesses (kind (instr_at c p (get_or s.places p 0))) e) in
-          let few = given.valid.fit.locs in
-          ap (λ (b : Bool). not (reading (kind (instr_at c p (get_or s.places p 0))) || syncs (kind (instr_at c p (get_or s.places p 0)))) && not b)
-          (ap (λ (n : ℕ). eqb (buffer_by k (n % 256)) 8) address_is ∙ slot_test k (operand k c (shown k c s) p 0) (omega arith))
+  pub quiet_write : (reading (kind next) || syncs (kind next)) ≡ false → writing (kind next) ≡ true → is_some (slot_by k (or_zero (first_by s.values p next))) ≡ quiet k c (shown k c s) p
+  unfolding quiet
+  quiet_write h w = ap (λ (l : ℕ). is_some (slot_by k l)) address_is ∙ rw (h, w) (slot_test k (operand k c (shown k c s) p 0))
+    where
+      slot_test : (k : Buffering) (l : ℕ) → is_some (slot_by k l) ≡ not (is_none (slot k l))
+      slot_test Direct l = refl
+      slot_test Shared l = refl
+      slot_test Split l = refl
+
+  pub quiet-other : (reading (kind next) || syncs (kind next)) ≡ false → writing (kind next) ≡ false → true ≡ quiet k c (shown k c s) p
+  unfolding quiet
+  quiet-other h w = rw (h, w)

@@ -1,19 +1,23 @@
 -- The bytes of registers by their places. Assumes nothing.
-use mathlib.Core.Path.{◌≡◌, refl, sym, ◌∙◌, ap}
-use mathlib.Core.Bool.{cond}
+use mathlib.Core.Path.{◌≡◌, refl, sym, ◌∙◌, ap, subst}
+use mathlib.Core.Bool.{Bool, cond, ◌&&◌}
+use denote.Param.Members.{Mut, Called}
+use native.Mathlib.Decide.{dec_lt}
+use native.Mathlib.Numerals.{add-one}
+use Rattle.std.specs.Array.{IsFromFnResultFrom, IsFromFnResult}
+use Rattle.std.specs.List.{list_all, range_with_len}
 use mathlib.Core.List.{List}
 use mathlib.Core.Option.{Option, none, some}
-use Prim.Native.Nat.{ℕ, ◌+◌, ◌*◌, ◌/◌, ◌%◌, ◌<◌}
+use Prim.Native.Nat.{ℕ, zero, suc, ◌+◌, ◌*◌, ◌/◌, ◌%◌, ◌<◌, ◌≤◌}
 use native.Mathlib.Omega.{arith}
 use lib.Dec.{ltb}
 use lib.ListN.{length, get_or}
 use lib.Seq.{ext_get_or}
 use borrow.Author.Tests.{lt-ltb}
-use Rattle.words.specs.Small.{counting, concat_map}
+use Rattle.words.specs.Small.{all, counting, concat_map}
 use Rattle.cases.specs.declared.Case.{Case}
 use Rattle.rules.specs.Result.{register_bytes}
-use Rattle.machine.specs.declared.Value.{Value}
-use Rattle.machine.specs.Shown.{shown_value}
+use Rattle.machine.specs.Shown.{Value, shown_value}
 use Rattle.machine.proofs.Listing.{blocks_long, block_at}
 use Rattle.boards.specs.declared.Buffering.{Buffering}
 use Rattle.boards.specs.Machine.{registers}
@@ -55,3 +59,23 @@ module _ (k : Buffering) (c : Case) (s : Arrays) where
   pub registers_are : (out : List ℕ) → length out ≡ 96 → ((j : ℕ) → j < 96 → get_or out j 0 ≡ byte_at c s.values j) → out ≡ registers c (shown k c s)
   unfolding registers
   registers_are out long same = ext_get_or 0 out (concat_map row (counting 0 4)) (long ∙ sym whole_long) (λ i h. same i (omega arith) ∙ sym (at_place i (omega arith)))
+
+-- what a closure gives of 0, 1, .., n - 1
+
+module _ {F B : Type 0} {g : Mut F (ℕ × Unit {0}) B} (R : ℕ → B → Type 0) (e : B) {f : F} (ys : List B) where
+  made_from : ((i : ℕ) (y : B) (q : F) → Called g f (i, tt) y q → (q ≡ f) × R i y) → (n k : ℕ) → IsFromFnResultFrom g f ys k n → (i : ℕ) → k ≤ i → i < k + n → R i (get_or ys i e)
+  made_from each zero k m i lo hi = absurd (omega arith)
+  made_from each (suc n) k m i lo hi =
+      let w = each k m.1 m.0 m.3 in
+      elim (dec_lt k i) [
+        | yes h ↦ made_from each n (k + 1) (subst (λ (z : F). IsFromFnResultFrom g z ys (k + 1) n) w.0 m.4) i (omega arith) (omega arith)
+        | no h ↦ let same : k ≡ i = omega arith in subst (λ (t : ℕ). R t (get_or ys t e)) same (subst (R k) (sym (m.2.1 e)) w.1)
+      ]
+
+  pub made_all : {n : ℕ} → IsFromFnResult g f ys n → ((i : ℕ) (y : B) (q : F) → Called g f (i, tt) y q → (q ≡ f) × R i y) → (i : ℕ) → i < n → R i (get_or ys i e)
+  made_all {n} m each i h = made_from each n 0 m.each i (omega arith) (omega arith)
+
+-- a test of each number of a range
+pub range_all : (f : ℕ → Bool) (n a : ℕ) → list_all f (range_with_len a n) ≡ all f (counting a n)
+range_all f zero a = refl
+range_all f (suc n) a = ap (λ (t : Bool). f a && t) (range_all f n (a + 1) ∙ ap (λ (m : ℕ). all f (counting m n)) (add-one a))

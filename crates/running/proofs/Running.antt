@@ -1,6 +1,7 @@
 -- The machine after an instruction. Assumes nothing.
+use Rattle.std.specs.Prelude.{Some}
 use mathlib.Core.Path.{◌≡◌, refl, sym, ◌∙◌, ap, ap₂, subst, fun_ext}
-use mathlib.Core.Logic.{◌⊎◌, ⊎_elim}
+use mathlib.Core.Logic.{⊎_elim}
 use mathlib.Core.Bool.{Bool, true, false, cond, ◌&&◌, ◌||◌, false≢true}
 use mathlib.Core.List.{List, [], ◌∷◌, ◌++◌, append-nil}
 use mathlib.Core.Option.{Option, none, some}
@@ -19,8 +20,7 @@ use Rattle.cases.specs.declared.Instr.{Instr}
 use Rattle.cases.specs.declared.Instr.TheVariants.{Empty, Read, Write, Local, Branch, Goto, Acquire, Release}
 use Rattle.cases.specs.Case.{count_of, instr_at}
 use Rattle.rules.specs.Kinds.{kind, reading, writing, acquiring, accesses, syncs, assigns, evaluate}
-use Rattle.machine.specs.declared.Value.{Value}
-use Rattle.machine.specs.Shown.{shown_value, holder_of}
+use Rattle.machine.specs.Shown.{Value, shown_value, holder_of}
 use Rattle.machine.specs.Fit.{Fine}
 use Rattle.machine.proofs.Stores.{set_put, set_all}
 use Rattle.issuing.specs.Issued.{assigned_by}
@@ -38,7 +38,7 @@ use Rattle.stores.specs.Log.{buffer_by}
 use Rattle.running.specs.Steps.{first_by, second_by, assign_by, follow_by, stored_by, written_by}
 use Rattle.running.specs.Valid.{Valid}
 use Rattle.running.specs.Given.{Running, Ran}
-use Rattle.stores.proofs.Gathered.{slot-some, slot-none, buffer_more}
+use Rattle.stores.proofs.Gathered.{buffer_more}
 use Rattle.running.proofs.Operands.{first_is, second_is}
 
 -- registers
@@ -68,13 +68,13 @@ put_id f p = fun_ext (λ (q : ℕ). ⊎_elim (λ h. rw h (ap f (eqb-true q p h))
 
 module _ (c : Case) (values : List Value) (p d v : ℕ) (long : length values ≡ 32) (hp : p < 4) (hd : d < 8) where
   abbrev kept : List Value
-  kept = set values (8 * p + d) (record { known = true; value = v })
+  kept = set values (8 * p + d) (Some v)
 
   abbrev target : ℕ → ℕ → Option ℕ
   target = put (values_of c values) p (put (values_of c values p) d (some v))
 
   kept_same : values_of c kept p d ≡ some v
-  kept_same = rw (lt-ltb p 4 hp, lt-ltb d 8 hd) (ap shown_value (get_or-set_same values (8 * p + d) (record { known = true; value = v }) unknown (omega arith)))
+  kept_same = rw (lt-ltb p 4 hp, lt-ltb d 8 hd) (ap shown_value (get_or-set_same values (8 * p + d) (Some v) unknown (omega arith)))
 
   kept_other : (q j : ℕ) → ((q ≡ p) × (j ≡ d) → ⊥) → values_of c kept q j ≡ values_of c values q j
   kept_other q j n = ⊎_elim inside outside (decide (ltb q 4 && ltb j 8))
@@ -123,7 +123,7 @@ assign_is c values p v i long low f =
 assign_long : (values : List Value) (p d v : ℕ) → length (assign_by values p d v) ≡ length values
 assign_long values p d v = step (ltb d 8)
   where
-    step : (b : Bool) → length (cond b (set values (8 * p + d) (record { known = true; value = v })) values) ≡ length values
+    step : (b : Bool) → length (cond b (set values (8 * p + d) (Some v)) values) ≡ length values
     step true = length-set values _ _
     step false = refl
 
@@ -184,6 +184,16 @@ module _ (holders : List ℕ) (x p : ℕ) (long : length holders ≡ 8) where
 
 -- the store
 
+numbered : (k : Buffering) (l : ℕ) → buffer_by k l < 8 → slot k l ≡ some (buffer_by k l)
+numbered Rattle.boards.specs.declared.Buffering.TheVariants.Direct l h = absurd (omega arith)
+numbered Rattle.boards.specs.declared.Buffering.TheVariants.Shared l h = refl
+numbered Rattle.boards.specs.declared.Buffering.TheVariants.Split l h = refl
+
+unnumbered : (k : Buffering) (l : ℕ) → l < 8 → 8 ≤ buffer_by k l → slot k l ≡ none
+unnumbered Rattle.boards.specs.declared.Buffering.TheVariants.Direct l h g = refl
+unnumbered Rattle.boards.specs.declared.Buffering.TheVariants.Shared l h g = absurd (omega arith)
+unnumbered Rattle.boards.specs.declared.Buffering.TheVariants.Split l h g = absurd (omega arith)
+
 abbrev new_log : ℕ → ℕ → ℕ → Logged
 new_log p l v = record { proc = p; loc = l; value = v; waits = true }
 
@@ -206,8 +216,8 @@ module _ (k : Buffering) (s : Arrays) (q p x y : ℕ) where
       by_slot : eqb q 2 ≡ true → x < 8 → Which (stored_by k s p x y)
       by_slot e h =
           elim (dec_lt (buffer_by k x) 8) [
-            | yes g ↦ entered e h (buffer_by k x) (slot-some k x g) (cond-false _ _ _ (ne_eqb (buffer_by k x) 8 (λ z. omega arith)))
-            | no g ↦ at_once e h (slot-none k x h (omega arith)) (cond-true _ _ _ (eq-eqb (buffer_by k x) 8 (eight k x h (omega arith))))
+            | yes g ↦ entered e h (buffer_by k x) (numbered k x g) (cond-false _ _ _ (ne_eqb (buffer_by k x) 8 (λ z. omega arith)))
+            | no g ↦ at_once e h (unnumbered k x h (omega arith)) (cond-true _ _ _ (eq-eqb (buffer_by k x) 8 (eight k x h (omega arith))))
           ]
         where
           eight : (k : Buffering) (l : ℕ) → l < 8 → 8 ≤ buffer_by k l → buffer_by k l ≡ 8
@@ -222,6 +232,18 @@ module _ (k : Buffering) (s : Arrays) (q p x y : ℕ) where
             | yes h ↦ rw (lt-ltb x 8 h) (by_slot e h)
             | no h ↦ rw (le-ltb x 8 (omega arith)) (same (λ _ z. h z) refl)
           ]
+
+-- a store leaves the registers
+pub written_values : (k : Buffering) (s : Arrays) (q p x y : ℕ) → (written_by k s q p x y).values ≡ s.values
+written_values k s q p x y = by_kind (eqb q 2 && ltb x 8)
+  where
+    by_slot : (t : Bool) → (cond t (direct k s q p x y) (buffered k s q p x y)).values ≡ s.values
+    by_slot true = refl
+    by_slot false = refl
+
+    by_kind : (t : Bool) → (cond t (stored_by k s p x y) s).values ≡ s.values
+    by_kind true = by_slot (eqb (buffer_by k x) 8)
+    by_kind false = refl
 
 -- the machine after it; val is what a read takes
 abbrev pub ran_by : Buffering → Arrays → ℕ → Instr → ℕ → Arrays

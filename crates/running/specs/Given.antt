@@ -2,8 +2,7 @@
 use Rattle.std.specs.Prelude.{◌≡◌, true, List, ℕ, ◌+◌, ◌/◌, ◌%◌, ◌≤◌, ◌<◌, length, get_or}
 use Rattle.cases.specs.declared.Case.{Case}
 use Rattle.cases.specs.Case.{preset_of}
-use Rattle.machine.specs.declared.Value.{Value}
-use Rattle.machine.specs.Shown.{shown_value}
+use Rattle.machine.specs.Shown.{Value, shown_value}
 use Rattle.boards.specs.declared.Buffering.{Buffering}
 use Rattle.boards.specs.Board.{opening}
 use Rattle.boards.specs.Run.{ran}

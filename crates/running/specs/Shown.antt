@@ -1,10 +1,9 @@
 -- What the arrays show: a board. Assumes nothing.
-use Rattle.std.specs.Prelude.{false, ◌&&◌, cond, List, ℕ, ◌+◌, ◌*◌, ltb, get_or}
+use Rattle.std.specs.Prelude.{None, false, ◌&&◌, cond, List, ℕ, ◌+◌, ◌*◌, ltb, get_or}
 use Rattle.std.proofs.Math.Option.{Option}
 use Rattle.cases.specs.declared.Case.{Case}
 use Rattle.cases.specs.Case.{preset_of}
-use Rattle.machine.specs.declared.Value.{Value}
-use Rattle.machine.specs.Shown.{shown_value, holder_of}
+use Rattle.machine.specs.Shown.{Value, shown_value, holder_of}
 use Rattle.boards.specs.declared.Buffering.{Buffering}
 use Rattle.boards.specs.Board.{Board}
 use Rattle.stores.specs.Log.{buffer_of}
@@ -12,7 +11,7 @@ use Rattle.running.specs.declared.Arrays.{Arrays}
 
 -- No value.
 abbrev pub unknown : Value
-unknown = record { known = false; value = 0 }
+unknown = None
 
 -- Registers by processor and number; one past the array keeps its start.
 abbrev pub values_of : Case → List Value → ℕ → ℕ → Option ℕ

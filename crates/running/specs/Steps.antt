@@ -1,13 +1,12 @@
 -- A step in the words of the arrays. Assumes nothing.
-use Rattle.std.specs.Prelude.{Bool, true, ◌&&◌, ◌||◌, cond, List, ℕ, ◌+◌, ◌*◌, ◌%◌, eqb, ltb, leb, length, get_or, set}
+use Rattle.std.specs.Prelude.{Some, Bool, true, ◌&&◌, ◌||◌, cond, List, ℕ, ◌+◌, ◌*◌, ◌%◌, eqb, ltb, leb, length, get_or, set}
 use Rattle.std.proofs.Math.Option.{Option, none}
 use Rattle.words.specs.Small.{is_none, or_zero, some_below}
 use Rattle.cases.specs.declared.Instr.{Instr}
 use Rattle.cases.specs.declared.Instr.TheVariants.{Empty, Read, Write, Local, Branch, Goto, Acquire, Release}
 use Rattle.rules.specs.Kinds.{reads, kind, accesses, syncs}
 use Rattle.rules.specs.Commit.{barred}
-use Rattle.machine.specs.declared.Value.{Value}
-use Rattle.machine.specs.Shown.{shown_value, holder_of}
+use Rattle.machine.specs.Shown.{Value, shown_value, holder_of}
 use Rattle.committing.specs.Committed.{branch_to}
 use Rattle.boards.specs.declared.Buffering.{Buffering}
 use Rattle.boards.specs.Board.{filled}
@@ -41,7 +40,7 @@ bars_by k s locs p i =
 
 -- The registers with v in register d of processor p, where d is one.
 abbrev pub assign_by : List Value → ℕ → ℕ → ℕ → List Value
-assign_by values p d v = cond (ltb d 8) (set values (8 * p + d) (record { known = true; value = v })) values
+assign_by values p d v = cond (ltb d 8) (set values (8 * p + d) (Some v)) values
 
 -- The place after an instruction, whose first register holds x.
 abbrev pub follow_by : Instr → ℕ → ℕ → ℕ

@@ -1,12 +1,12 @@
 // A store-buffer machine in arrays: registers, memory, locks, and one log of stores that holds all buffers of all kinds.
 #![tactic(auto)]
 
-ghost use Rattle.std.specs.Prelude.{◌≡◌, ◌&&◌, cond, ◌/◌, ◌≤◌, ◌<◌, ltb, length, get_or};
-ghost use Rattle.std.proofs.Math.Option.{none, some};
+ghost use Rattle.std.specs.Prelude.{◌≡◌, ◌&&◌, cond, ◌/◌, ◌≤◌, ◌<◌, ltb, length, get_or, take, is_some, unwrap_or};
+ghost use Rattle.std.proofs.Math.Option.{none};
 ghost use Rattle.cases.specs.declared.Case.{Case as TheCase};
 ghost use Rattle.words.specs.Small.{some_below};
 ghost use Rattle.rules.specs.Kinds.{syncs};
-ghost use Rattle.machine.specs.Shown.{shown_value};
+ghost use Rattle.machine.specs.Shown.{option_of, shown_value};
 ghost use Rattle.machine.specs.Fit.{Fit};
 ghost use Rattle.issuing.specs.Issued.{assigned_by};
 ghost use Rattle.boards.specs.declared.Buffering.{Buffering as Kind};
@@ -23,192 +23,171 @@ ghost use Rattle.running.specs.Given.{Seeing, Storing, Looking, Glancing, Runnin
 
 use boards::Buffering;
 use cases::{Case, Instr};
-use machine::Value;
 use stores::Logged;
 
 // Register k of processor p stands at 8p + k; the stores of the log stand in the order in which they were run.
 #[derive(Clone, Copy)]
 pub struct Arrays {
     pub places: [u8; 4],
-    pub values: [Value; 32],
+    pub values: [Option<u16>; 32],
     pub holders: [u8; 8],
     pub memory: [u16; 8],
+    // Beside the log, not in it: the clauses of `Valid c s` name both, and memory is fixed.
     pub logged: usize,
     pub log: [Logged; 48],
 }
 
+impl Arrays {
+    // The stores of the log so far.
+    pub fn stores(&self) -> &[Logged]
+        requires { self.now.logged ≤ 48 }
+        ensures { result.now ≡ take self.now.logged self.now.log }
+    {
+        &self.log[..self.logged]
+    }
+}
+
 // What processor p reads at location l.
-fn seen(k: Buffering, s: Arrays, p: usize, l: usize) -> u16
-    requires { Seeing s l }
-    ensures { (c : TheCase) → result ≡ seen_of k (shown k c s) p l }
+fn seen(k: Buffering, s: &Arrays, p: usize, l: usize) -> u16
+    requires { Seeing s.now l }
+    ensures { (c : TheCase) → result ≡ seen_of k (shown k c s.now) p l }
 {
-    let b = words::wide(stores::buffer_of(k, (l % 256) as u8));
-    if b < 8 {
-        let log = s.log;
-        let v = stores::newest(k, log, s.logged, p, b, l);
-        if v.known {
-            return v.value;
+    if let Some(b) = stores::buffer_of(k, l) {
+        if let Some(v) = stores::newest(k, s.stores(), p, b, l) {
+            return v;
         }
     }
     s.memory[l]
 }
 
-// What register r of processor p holds, where it is there.
-fn operand(values: [Value; 32], p: usize, there: bool, r: u8) -> Value
-    requires { (p < 4) × (length values ≡ 32) }
-    ensures { shown_value result ≡ operand_by values p there r }
+// What a register of processor p holds.
+fn operand(values: &[Option<u16>; 32], p: usize, register: Option<u8>) -> Option<u16>
+    requires { p < 4 }
+    ensures { shown_value result ≡ operand_by values.now p (is_some register) (unwrap_or register 0) }
 {
-    if there {
-        let n = words::wide(r);
-        if n < 8 {
-            return values[8 * p + n];
-        }
-    }
-    Value {
-        known: false,
-        value: 0,
+    match register {
+        Some(r) if r < 8 => values[8 * p + r as usize],
+        _ => None,
     }
 }
 
 // What the first register that an instruction reads holds.
-fn first(values: [Value; 32], p: usize, i: Instr) -> Value
-    requires { (p < 4) × (length values ≡ 32) }
-    ensures { shown_value result ≡ first_by values p i }
+fn first(values: &[Option<u16>; 32], p: usize, i: Instr) -> Option<u16>
+    requires { p < 4 }
+    ensures { shown_value result ≡ first_by values.now p i }
 {
-    let there = 0 < committing::arity(i);
-    operand(values, p, there, issuing::first_read(i))
+    operand(
+        values,
+        p,
+        (0 < committing::arity(i)).then_some(issuing::first_read(i)),
+    )
 }
 
 // What the second holds.
-fn second(values: [Value; 32], p: usize, i: Instr) -> Value
-    requires { (p < 4) × (length values ≡ 32) }
-    ensures { shown_value result ≡ second_by values p i }
+fn second(values: &[Option<u16>; 32], p: usize, i: Instr) -> Option<u16>
+    requires { p < 4 }
+    ensures { shown_value result ≡ second_by values.now p i }
 {
-    let there = 1 < committing::arity(i);
-    operand(values, p, there, issuing::second_read(i))
+    operand(
+        values,
+        p,
+        (1 < committing::arity(i)).then_some(issuing::second_read(i)),
+    )
 }
 
 // Whether a register that an instruction reads is undefined.
-fn unready(values: [Value; 32], p: usize, i: Instr) -> bool
-    requires { (p < 4) × (length values ≡ 32) }
-    ensures { result ≡ unready_by values p i }
+fn unready(values: &[Option<u16>; 32], p: usize, i: Instr) -> bool
+    requires { p < 4 }
+    ensures { result ≡ unready_by values.now p i }
 {
     let n = committing::arity(i);
-    let x = first(values, p, i);
-    let y = second(values, p, i);
-    ((0 < n) & !x.known) | ((1 < n) & !y.known)
+    ((0 < n) & first(values, p, i).is_none()) | ((1 < n) & second(values, p, i).is_none())
 }
 
 // Whether an acquire or a release has to wait for the buffers of processor p.
-fn stuck(k: Buffering, log: [Logged; 48], logged: usize, locs: u8, q: u8, p: usize) -> bool
-    requires { (p < 4) × (locs ≤ 8) × (logged ≤ 48) × (length log ≡ 48) }
-    ensures { result ≡ (syncs q && some_below locs (λ b. filled (buffer_of k log logged p b))) }
+fn stuck(k: Buffering, s: &Arrays, locs: u8, q: u8, p: usize) -> bool
+    requires { (p < 4) × (locs ≤ 8) × (s.now.logged ≤ 48) × (length s.now.log ≡ 48) }
+    ensures { result ≡ (syncs q && some_below locs (λ b. filled (buffer_of k s.now.log s.now.logged p b))) }
 {
     if (q == 6) | (q == 7) {
-        return stores::holding(k, log, logged, locs, p);
+        stores::holding(k, s.stores(), locs, p)
+    } else {
+        false
     }
-    false
 }
 
 // Whether instruction i of processor p, inside its program, is barred.
-fn bars(k: Buffering, s: Arrays, locs: u8, p: usize, i: Instr) -> bool
-    requires { (p < 4) × (locs ≤ 8) × (s.logged ≤ 48) × (length s.log ≡ 48) × (length s.values ≡ 32) × (length s.holders ≡ 8) }
-    ensures { result ≡ bars_by k s locs p i }
+fn bars(k: Buffering, s: &Arrays, locs: u8, p: usize, i: Instr) -> bool
+    requires { (p < 4) × (locs ≤ 8) × (s.now.logged ≤ 48) × (length s.now.log ≡ 48) }
+    ensures { result ≡ bars_by k s.now locs p i }
 {
     let q = rules::kind_of(i);
-    let values = s.values;
-    let log = s.log;
-    let u = unready(values, p, i);
-    let x = machine::or_zero(first(values, p, i)) as usize;
-    let top = words::wide(locs);
-    let far = (((q == 1) | (q == 2)) | ((q == 6) | (q == 7))) & (top <= x);
-    let h = committing::holder_at(&s.holders, x);
-    let b = committing::barred_by(h, q, p);
-    let w = stuck(k, log, s.logged, locs, q, p);
-    u | (far | (b | w))
+    let x = machine::or_zero(first(&s.values, p, i)) as usize;
+    let far = (((q == 1) | (q == 2)) | ((q == 6) | (q == 7))) & (locs as usize <= x);
+    let held = committing::barred_by(committing::holder_at(&s.holders, x), q, p);
+    unready(&s.values, p, i) | (far | (held | stuck(k, s, locs, q, p)))
 }
 
 // Whether processor p may run its next instruction.
-pub fn can_run(c: Case, k: Buffering, s: Arrays, p: usize) -> bool
-    requires { Looking c s p }
-    ensures { result ≡ allowed k c (shown k c s) (run_move p) }
+pub fn can_run(case: &Case, k: Buffering, s: &Arrays, p: usize) -> bool
+    requires { Looking case.now s.now p }
+    ensures { result ≡ allowed k case.now (shown k case.now s.now) (run_move p) }
 {
-    if words::wide(c.procs) <= p {
-        return false;
-    }
     let place = s.places[p];
-    if c.counts[p] <= place {
-        return false;
-    }
-    let t = c.code[12 * p + words::wide(place)];
-    let i = t.instr;
-    !bars(k, s, c.locs, p, i)
+    p < case.procs as usize
+        && place < case.counts[p]
+        && !bars(k, s, case.locs, p, case.code[12 * p + place as usize].instr)
 }
 
-// What a search looks at before it runs an instruction: its kind, what its first register holds, whether it is quiet.
+// What a search looks at before it runs an instruction: the instruction, what its first register holds, whether it is quiet.
 #[derive(Clone, Copy)]
 pub struct Next {
-    pub kind: u8,
+    pub instr: Instr,
     pub at: u16,
     pub quiet: bool,
 }
 
 // The next instruction of processor p, which nothing bars.
-pub fn glance(c: Case, k: Buffering, s: Arrays, p: usize) -> Next
-    requires { Glancing k c s p }
-    ensures { Glanced k c (shown k c s) p result }
+pub fn glance(case: &Case, k: Buffering, s: &Arrays, p: usize) -> Next
+    requires { Glancing k case.now s.now p }
+    ensures { Glanced k case.now (shown k case.now s.now) p result }
 {
-    let place = s.places[p];
-    let t = c.code[12 * p + words::wide(place)];
-    let i = t.instr;
-    let q = rules::kind_of(i);
-    let values = s.values;
-    let x = machine::or_zero(first(values, p, i));
-    let b = stores::buffer_of(k, (x % 256) as u8);
-    Next {
-        kind: q,
-        at: x,
-        quiet: !((q == 1) | ((q == 6) | (q == 7))) & !((q == 2) & (b == 8)),
-    }
+    let instr = case.code[12 * p + s.places[p] as usize].instr;
+    let at = machine::or_zero(first(&s.values, p, instr));
+    let quiet = match instr {
+        Instr::Read(_, _) | Instr::Acquire(_) | Instr::Release(_) => false,
+        Instr::Write(_, _) => stores::buffer_of(k, at as usize).is_some(),
+        _ => true,
+    };
+    Next { instr, at, quiet }
 }
 
 // Whether the next instruction of processor p is a quiet one that it may run.
-pub fn sure(c: Case, k: Buffering, s: Arrays, p: usize) -> bool
-    requires { Looking c s p }
-    ensures { result ≡ (is_quiet k c (shown k c s) p && allowed k c (shown k c s) (run_move p)) }
+pub fn sure(case: &Case, k: Buffering, s: &Arrays, p: usize) -> bool
+    requires { Looking case.now s.now p }
+    ensures { result ≡ (is_quiet k case.now (shown k case.now s.now) p && allowed k case.now (shown k case.now s.now) (run_move p)) }
 {
-    if can_run(c, k, s, p) {
-        let g = glance(c, k, s, p);
-        return g.quiet;
-    }
-    false
+    can_run(case, k, s, p) && glance(case, k, s, p).quiet
 }
 
-// The location of the oldest store of buffer b of processor p, which holds one.
-pub fn drain_at(c: Case, k: Buffering, s: Arrays, p: usize, b: usize) -> u8
-    requires { Draining k c s p b }
-    ensures { oldest_at ((shown k c s).buffers p b) ≡ some result }
+// The location of the oldest store of buffer b of processor p.
+pub fn drain_at(k: Buffering, s: &Arrays, p: usize, b: usize) -> Option<u16>
+    requires { (s.now.logged ≤ 48) × (length s.now.log ≡ 48) }
+    ensures { option_of (is_some result) (unwrap_or result 0) ≡ oldest_at (buffer_of k s.now.log s.now.logged p b) }
 {
-    let log = s.log;
-    let j = stores::oldest(k, log, s.logged, p, b);
-    let x = s.log[j];
-    x.loc
+    let j = stores::oldest(k, s.stores(), p, b)?;
+    Some(s.log[j].loc as u16)
 }
 
-// The registers with v in the one that instruction i of processor p assigns.
-fn assign(values: [Value; 32], p: usize, i: Instr, v: u16) -> [Value; 32]
-    requires { (p < 4) × (length values ≡ 32) }
-    ensures { result ≡ assign_by values p (assigned_by i) v }
+// Puts v into the register that instruction i of processor p assigns.
+fn assign(values: &mut [Option<u16>; 32], p: usize, i: Instr, v: u16)
+    requires { p < 4 }
+    ensures { values.new ≡ assign_by values.old p (assigned_by i) v }
 {
-    let d = words::wide(issuing::assigned(i));
-    let mut n = values;
+    let d = issuing::assigned(i) as usize;
     if d < 8 {
-        n[8 * p + d] = Value {
-            known: true,
-            value: v,
-        };
+        values[8 * p + d] = Some(v);
     }
-    n
 }
 
 // The place after instruction i, whose first register holds x.
@@ -217,131 +196,99 @@ fn follow(i: Instr, place: u8, x: u16) -> u8
     ensures { result ≡ follow_by i place x }
 {
     match i {
-        Instr::Empty => place + 1,
-        Instr::Read(_, _) => place + 1,
-        Instr::Write(_, _) => place + 1,
-        Instr::Local(_, _) => place + 1,
         Instr::Branch(_, l) => committing::branch_to(x, place, l),
         Instr::Goto(l) => (l % 256) as u8,
-        Instr::Acquire(_) => place + 1,
-        Instr::Release(_) => place + 1,
+        _ => place + 1,
     }
 }
 
 // What a read by processor p takes at location x; of another kind nothing.
-fn value_read(k: Buffering, s: Arrays, q: u8, p: usize, x: u16) -> u16
-    requires { (s.logged ≤ 48) × (length s.log ≡ 48) × (length s.memory ≡ 8) }
-    ensures { (c : TheCase) → q ≡ 1 → x < 8 → result ≡ seen_of k (shown k c s) p x }
+fn value_read(k: Buffering, s: &Arrays, q: u8, p: usize, x: u16) -> u16
+    requires { (s.now.logged ≤ 48) × (length s.now.log ≡ 48) }
+    ensures { (c : TheCase) → q ≡ 1 → x < 8 → result ≡ seen_of k (shown k c s.now) p x }
 {
-    if q == 1 {
-        let l = x as usize;
-        if l < 8 {
-            return seen(k, s, p, l);
-        }
+    if q == 1 && x < 8 {
+        seen(k, s, p, x as usize)
+    } else {
+        0
     }
-    0
 }
 
-// The machine after a store of v to location l by processor p: in memory, or in the log.
-fn stored(k: Buffering, s: Arrays, p: usize, l: usize, v: u16) -> Arrays
-    requires { Storing s p l }
-    ensures { result ≡ stored_by k s p l v }
+// Stores v at location l for processor p: in memory, or in the log.
+fn store(k: Buffering, s: &mut Arrays, p: usize, l: usize, v: u16)
+    requires { Storing s.old p l }
+    ensures { s.new ≡ stored_by k s.old p l v }
 {
-    let loc = (l % 256) as u8;
-    let end = s.logged;
-    let mut n = s;
-    if stores::buffer_of(k, loc) == 8 {
-        n.memory[l] = v;
-        return n;
+    if stores::buffer_of(k, l).is_none() {
+        s.memory[l] = v;
+    } else {
+        s.log[s.logged] = Logged {
+            proc: p as u8,
+            loc: l as u8,
+            value: v,
+            waits: true,
+        };
+        s.logged += 1;
     }
-    n.log[end] = Logged {
-        proc: (p % 256) as u8,
-        loc,
-        value: v,
-        waits: true,
-    };
-    n.logged = end + 1;
-    n
 }
 
 // The same where the kind is a write's.
-fn written(k: Buffering, s: Arrays, q: u8, p: usize, x: u16, y: u16) -> Arrays
-    requires { (p < 4) × (s.logged < 48) × (length s.log ≡ 48) × (length s.memory ≡ 8) }
-    ensures { result ≡ written_by k s q p x y }
+fn write(k: Buffering, s: &mut Arrays, q: u8, p: usize, x: u16, y: u16)
+    requires { (p < 4) × (s.old.logged < 48) × (length s.old.log ≡ 48) }
+    ensures { s.new ≡ written_by k s.old q p x y }
 {
-    if q == 2 {
-        let l = x as usize;
-        if l < 8 {
-            return stored(k, s, p, l, y);
-        }
+    if q == 2 && x < 8 {
+        store(k, s, p, x as usize, y);
     }
-    s
 }
 
 // The machine after the next instruction of processor p, which nothing bars.
-pub fn run(c: Case, k: Buffering, s: Arrays, p: usize) -> Arrays
-    requires { Running k c s p }
-    ensures { Ran k c s p result }
+#[tactic(auto, using(crate::proofs::Running::proc_low, crate::proofs::Running::place_small))]
+pub fn run(case: &Case, k: Buffering, s: &Arrays, p: usize) -> Arrays
+    requires { Running k case.now s.now p }
+    ensures { Ran k case.now s.now p result }
 {
     let place = s.places[p];
-    let t = c.code[12 * p + words::wide(place)];
-    let i = t.instr;
+    let i = case.code[12 * p + place as usize].instr;
     let q = rules::kind_of(i);
-    let values = s.values;
-    let x = machine::or_zero(first(values, p, i));
-    let y = machine::or_zero(second(values, p, i));
-    let v = value_read(k, s, q, p, x);
-    let result = committing::result_by(v, x, y, i);
-    let at = follow(i, place, x);
-    let holders = s.holders;
-    let locks = committing::locked_by(q, holders, x as usize, p);
-    let regs = assign(values, p, i, result);
-    let mut n = written(k, s, q, p, x, y);
-    n.places[p] = at;
-    n.values = regs;
-    n.holders = locks;
-    n
+    let x = machine::or_zero(first(&s.values, p, i));
+    let y = machine::or_zero(second(&s.values, p, i));
+    let result = committing::result_by(value_read(k, s, q, p, x), x, y, i);
+    let mut next = *s;
+    write(k, &mut next, q, p, x, y);
+    next.places[p] = follow(i, place, x);
+    assign(&mut next.values, p, i, result);
+    next.holders = committing::locked_by(q, s.holders, x as usize, p);
+    next
 }
 
 // The machine after the oldest store of buffer b of processor p has reached memory.
-pub fn drain(c: Case, k: Buffering, s: Arrays, p: usize, b: usize) -> Arrays
-    requires { Draining k c s p b }
-    ensures { Drained k c s p b result }
+pub fn drain(case: &Case, k: Buffering, s: &Arrays, p: usize, b: usize) -> Arrays
+    requires { Draining k case.now s.now p b }
+    ensures { Drained k case.now s.now p b result }
 {
-    let log = s.log;
-    let j = stores::oldest(k, log, s.logged, p, b);
-    let x = s.log[j];
-    let mut n = s;
-    n.memory[words::wide(x.loc)] = x.value;
-    n.log[j] = Logged { waits: false, ..x };
-    n
+    let mut next = *s;
+    if let Some(j) = stores::oldest(k, s.stores(), p, b) {
+        let x = s.log[j];
+        next.memory[x.loc as usize] = x.value;
+        next.log[j].waits = false;
+    }
+    next
 }
 
 // What each register starts with.
-fn presets(c: Case) -> [Value; 32]
-    requires { Fit c }
-    ensures { Preset c result }
+fn presets(case: &Case) -> [Option<u16>; 32]
+    requires { Fit case.now }
+    ensures { Preset case.now result }
 {
-    let none = Value {
-        known: false,
-        value: 0,
-    };
-    let mut out = [none; 32];
-    let mut i: usize = 0;
-    while i < 32 {
-        out[i] = machine::preset_of(&c.masks, &c.presets, i);
-        i += 1;
-    }
-    out
+    std::array::from_fn(|n| machine::preset_of(case, n))
 }
 
 // The machine before the first step.
-pub fn start(c: Case, k: Buffering) -> Arrays
-    requires { Fit c }
-    ensures { Started k c result }
+pub fn start(case: &Case) -> Arrays
+    requires { Fit case.now }
+    ensures { (k : Kind) → Started k case.now result }
 {
-    let values = presets(c);
-    let memory = c.memory;
     let none = Logged {
         proc: 0,
         loc: 0,
@@ -350,56 +297,38 @@ pub fn start(c: Case, k: Buffering) -> Arrays
     };
     Arrays {
         places: [0; 4],
-        values,
+        values: presets(case),
         holders: [0; 8],
-        memory,
+        memory: case.memory,
         logged: 0,
         log: [none; 48],
     }
 }
 
 // Whether every place counter is at its processor's count.
-pub fn ended(c: Case, s: Arrays) -> bool
-    requires { Valid c s }
-    ensures { (k : Kind) → result ≡ is_ended c (shown k c s) }
+pub fn ended(case: &Case, s: &Arrays) -> bool
+    requires { Valid case.now s.now }
+    ensures { (k : Kind) → result ≡ is_ended case.now (shown k case.now s.now) }
 {
-    let top = words::wide(c.procs);
-    let mut all = true;
-    let mut p: usize = 0;
-    while p < top {
-        let there = s.places[p] == c.counts[p];
-        all = all & there;
-        p += 1;
-    }
-    all
+    (0..case.procs as usize).all(|p| s.places[p] == case.counts[p])
 }
 
 // What register n, counted over all processors, holds; that of an absent processor nothing.
-fn register(procs: u8, values: [Value; 32], n: usize) -> Value
-    requires { (n < 32) × (length values ≡ 32) }
-    ensures { shown_value result ≡ cond (ltb (n / 8) procs) (shown_value (get_or values n unknown)) none }
+fn register(case: &Case, values: &[Option<u16>; 32], n: usize) -> Option<u16>
+    requires { n < 32 }
+    ensures { shown_value result ≡ cond (ltb (n / 8) case.now.procs) (shown_value (get_or values.now n unknown)) none }
 {
-    if n / 8 < words::wide(procs) {
-        return values[n];
-    }
-    Value {
-        known: false,
-        value: 0,
+    if n / 8 < case.procs as usize {
+        values[n]
+    } else {
+        None
     }
 }
 
 // The 96 bytes of registers.
-pub fn registers(c: Case, s: Arrays) -> [u8; 96]
-    requires { Valid c s }
-    ensures { (k : Kind) → result ≡ registers_of c (shown k c s) }
+pub fn registers(case: &Case, s: &Arrays) -> [u8; 96]
+    requires { Valid case.now s.now }
+    ensures { (k : Kind) → result ≡ registers_of case.now (shown k case.now s.now) }
 {
-    let values = s.values;
-    let mut out = [0u8; 96];
-    let mut i: usize = 0;
-    while i < 96 {
-        let v = register(c.procs, values, i / 3);
-        out[i] = machine::byte_of(v, i % 3);
-        i += 1;
-    }
-    out
+    std::array::from_fn(|i| machine::byte_of(register(case, &s.values, i / 3), i % 3))
 }

@@ -1,18 +1,13 @@
 // The place of a byte.
-ghost use Rattle.std.specs.Prelude.{◌≤◌, length};
+ghost use Rattle.std.specs.Prelude.{◌≤◌, ◌<◌, length, IfSome, unwrap_or};
 ghost use Rattle.scanning.specs.Found.{Found};
 
-// The first place from a position on that holds the byte, the end where there is none.
-pub fn find(bytes: &[u8], from: usize, byte: u8) -> usize
+// The first place from a position on that holds the byte.
+pub fn find(bytes: &[u8], from: usize, byte: u8) -> Option<usize>
     requires { from ≤ length bytes.now }
-    ensures { Found byte bytes.now from result }
+    ensures found { Found byte bytes.now from (unwrap_or result (length bytes.now)) }
+    ensures inside { IfSome result (λ at. at < length bytes.now) }
 {
-    let mut i = from;
-    while i < bytes.len() {
-        if bytes[i] == byte {
-            return i;
-        }
-        i += 1;
-    }
-    i
+    let ahead = bytes[from..].iter().position(|b| *b == byte)?;
+    Some(from + ahead)
 }

@@ -22,14 +22,16 @@ use Rattle.sure.specs.Spent.{step_by, Rested}
 use Rattle.sure.proofs.Known.{known}
 use Rattle.sure.proofs.Sweep.{rested_after}
 use Rattle.machine.specs.declared.Machine.{Machine}
-use Rattle.machine.specs.Shown.{shown}
+use Rattle.machine.specs.Shown.{shown, Presets}
+use Rattle.machine.specs.Lent.{Program}
 use Rattle.machine.specs.Given.{Showing}
 use Rattle.machine.specs.Fit.{Fit}
 use Rattle.spending.specs.Words.{spent_by, key_at}
 use Rattle.searching.specs.declared.Tally.{Tally}
 use Rattle.searching.specs.Entered.{entered, Woken}
-use Rattle.searching.specs.Ready.{Ready}
+use Rattle.searching.specs.Ready.{Ready, Entering}
 use Rattle.searching.specs.Searched.{Searched, Explored}
+use Rattle.searching.proofs.Lends.{presets}
 use Rattle.searching.proofs.Starts.{not_spent}
 
 module _ (c : Case) (s : State) (i : ℕ) where
@@ -41,6 +43,11 @@ module _ (c : Case) (s : State) (i : ℕ) where
 
 pub sized : (c : Case) → Fit c → Sized c
 sized c F = record { few = F.procs; short = λ p _. F.counts p }
+
+-- the machine that `enter` leaves
+pub entered_shows : {c : Case} {program : List ℕ} {m next : Machine} {i n : ℕ} {ahead : Bool} {asked : Asked} {spent bytes : List ℕ} {y : Tally} → Ready c program m i n ahead asked spent bytes y
+    → ((d : Case) → Program d program → Presets d c.masks c.presets → d.memory ≡ c.memory → Entering d m i → Showing d (entered d (shown d m) i) next) → Showing c (entered c (shown c m) i) next
+entered_shows {c} {m = m} R enters = enters c R.coded (presets c m) refl R.entering
 
 -- where the search ends at once, nothing need stay spent
 pub woken_none : (s : State) (i : ℕ) (spent : List ℕ) → Woken s i spent (cond (ltb i 3200) (replicate 50 0) spent)

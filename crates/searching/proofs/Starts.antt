@@ -56,6 +56,10 @@ not_spent a h = false≢true (sym (ap (λ (sp : Spent). sp a) spent_none) ∙ h)
 abbrev pub empty : Tally
 empty = record { count = 0; cut = false; full = false }
 
+-- which is the default
+pub empty_of : {y : Tally} → (y.count ≡ 0) × ((y.cut ≡ false) × (y.full ≡ false)) → y ≡ empty
+empty_of e i = record { count = e.0 i; cut = e.1.0 i; full = e.1.1 i }
+
 -- what the search is given
 pub ready_start : {c : Case} {program : List ℕ} {m : Machine} {n : ℕ} {ahead : Bool} {asked : Asked} (size : ℕ) {zeros : List ℕ} → Program c program → Reachable (womm c) (shown c m) → Valid c m → ahead ≡ forward c → n ≤ 96 → Askable asked → zeros ≡ replicate size 0
     → Ready c program m 3200 n ahead asked (replicate 50 0) zeros empty
@@ -76,6 +80,15 @@ ready_start {c} {program} {m} size {zeros} coded reached valid forwards few asks
 -- it goes on from the machine itself
 pub searched_start : {c : Case} {W : Wish} {s : State} {spent : List ℕ} {n : ℕ} {before bytes : List ℕ} {y z : Tally} → Explored c W s 3200 spent n before y bytes z → Searched c W (spent_by spent) s n before y bytes z
 searched_start {c} {W} {s} {n = n} {before} {bytes} {y} {z} D = subst (λ (x : List ℕ). Searched c W (spent_by x) s n before y bytes z) (D.woken.none (omega arith)) D.searched
+
+-- the same with the default
+pub ready_empty : {c : Case} {program : List ℕ} {m : Machine} {i n : ℕ} {ahead : Bool} {asked : Asked} {spent bytes : List ℕ} (y : Tally) → (y.count ≡ 0) × ((y.cut ≡ false) × (y.full ≡ false))
+    → Ready c program m i n ahead asked spent bytes empty → Ready c program m i n ahead asked spent bytes y
+ready_empty {c} {program} {m} {i} {n} {ahead} {asked} {spent} {bytes} y e = subst (Ready c program m i n ahead asked spent bytes) (sym (empty_of e))
+
+pub explored_empty : {c : Case} {W : Wish} {s : State} {i : ℕ} {spent : List ℕ} {n : ℕ} {before bytes : List ℕ} (y : Tally) {z : Tally} → (y.count ≡ 0) × ((y.cut ≡ false) × (y.full ≡ false))
+    → Explored c W s i spent n before y bytes z → Explored c W s i spent n before empty bytes z
+explored_empty {c} {W} {s} {i} {spent} {n} {before} {bytes} y {z} e = subst (λ (y : Tally). Explored c W s i spent n before y bytes z) (empty_of e)
 
 -- an empty buffer tells nothing
 pub tells_nothing : (bytes : List ℕ) (q : Question) → Tells bytes empty q → ⊥

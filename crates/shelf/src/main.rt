@@ -1,7 +1,7 @@
 // Prints the numbers over a shelf: a file of blocks on standard input, in pieces as they come.
 #![tactic(auto)]
 
-ghost use Rattle.std.specs.Prelude.{◌≡◌, ◌-◌, ◌≤◌, length};
+ghost use Rattle.std.specs.Prelude.{◌≤◌, length};
 ghost use Rattle.shelf.specs.Said.{Answered};
 
 use shelves::Reading;
@@ -11,23 +11,12 @@ use std::io::{IsTerminal, Read, Stderr};
 // With so many bytes a shelf has 65,536 blocks: it is refused, whatever follows.
 const MOST: usize = 33554432;
 
-// A number less another, 0 where that is larger.
-fn less(most: usize, n: usize) -> usize
-    ensures { result ≡ most - n }
-{
-    if most < n {
-        return 0;
-    }
-    most - n
-}
-
 // On a terminal, how many blocks were read; what is written next stands over it.
 fn show(screen: Stderr, left: usize) {
-    if !screen.is_terminal() {
-        return;
+    if screen.is_terminal() {
+        let blocks = MOST.saturating_sub(left) / 512;
+        let _ = eprint!(screen; "{blocks} blocks\r");
     }
-    let blocks = less(MOST, left) / 512;
-    let _ = eprint!(screen; "{blocks} blocks\r");
 }
 
 // The same line, empty again.
@@ -56,7 +45,7 @@ fn main(rt: HostRuntime) -> io::Result<()> {
             break;
         }
         read = shelves::read_on(read, &piece[..n]);
-        left = less(left, n);
+        left = left.saturating_sub(n);
         show(rt.stderr(), left);
     }
     hide(rt.stderr());

@@ -1,10 +1,10 @@
 -- A piece read on, whether it ends before a block is full or not. Assumes nothing.
-use mathlib.Core.Path.{◌≡◌, sym, ap, ◌∙◌}
+use mathlib.Core.Path.{◌≡◌, sym, ap, ap₂, ◌∙◌}
 use mathlib.Core.List.{List, ◌++◌, append_assoc}
 use Prim.Native.Nat.{ℕ, ◌+◌, ◌*◌, ◌-◌, ◌/◌, ◌%◌, ◌≤◌, ◌<◌, min}
 use native.Mathlib.Omega.{arith}
-use lib.ListN.{length, take, drop, length-append, length-drop, take-append-drop}
-use lib.Seq.{paste, take-paste, length-paste, take_all}
+use lib.ListN.{length, take, drop, length-append, take-append-drop}
+use lib.Seq.{take_all}
 use Rattle.shelves.specs.declared.Tally.{Tally}
 use Rattle.shelves.specs.declared.Reading.{Reading}
 use Rattle.shelves.specs.Blocks.{blocks_of, left_over}
@@ -14,31 +14,15 @@ use Rattle.shelves.proofs.Adding.{counted-append}
 use Rattle.shelves.proofs.Tallying.{tally_all}
 use Rattle.shelves.proofs.Splitting.{blocks_append, left-append, blocks_short, left_short, left-length, blocks_on, left_on}
 
--- a lent tail is the rest of the list
-pub tail_is : (a : ℕ) (xs : List ℕ) → take (length xs - a) (drop a xs) ≡ drop a xs
-tail_is a xs = take_all (length xs - a) (drop a xs) (omega (arith, length-drop a xs))
-
--- what is left over, copied to the front
-pub front-is :
-    (rest bytes after : List ℕ) → after ≡ paste rest 0 (take (length bytes - (length bytes - length bytes % 512)) (drop (length bytes - length bytes % 512) bytes)) (length bytes % 512)
-    → take (length bytes % 512) after ≡ left_over bytes
+-- what a block's end leaves over
+pub left-is : (bytes : List ℕ) → drop (length bytes - length bytes % 512) bytes ≡ left_over bytes
 unfolding left_over
-front-is rest bytes after e =
-    let over = length bytes % 512 in
-    let from = length bytes - over in
-    let starts : from ≡ 512 * (length bytes / 512) = omega arith in
-    let none : over ≡ 0 + over = omega arith in
-    let size : length (drop from bytes) ≡ over = omega (arith, length-drop from bytes) in
-    ap (take over) (e ∙ ap (λ (l : List ℕ). paste rest 0 l over) (tail_is from bytes))
-    ∙ ap (λ (n : ℕ). take n (paste rest 0 (drop from bytes) over)) none
-    ∙ take-paste rest 0 (drop from bytes) over (omega arith) (omega arith)
-    ∙ take_all over (drop from bytes) (omega arith)
-    ∙ ap (λ (n : ℕ). drop n bytes) starts
+left-is bytes =
+    let starts : length bytes - length bytes % 512 ≡ 512 * (length bytes / 512) = omega arith in
+    ap (λ (n : ℕ). drop n bytes) starts
 
-module _ (r : Reading) (long : length r.rest ≡ 512) (piece : List ℕ) (end n : ℕ) (ends : end ≡ min r.over 512) (takes : n ≡ min (512 - end) (length piece)) where
-  abbrev filled : List ℕ
-  filled = paste r.rest end piece n
-
+-- the block left over, filled with the first n bytes of the piece
+module _ (r s : Reading) (piece filled : List ℕ) (end n : ℕ) (ends : end ≡ min r.over 512) (takes : n ≡ min (length piece) (512 - end)) (front : take (end + n) filled ≡ take end r.rest ++ take n piece) where
   module _ (file : List ℕ) (known : After file r) where
     abbrev left : List ℕ
     left = left_over file
@@ -54,26 +38,23 @@ module _ (r : Reading) (long : length r.rest ≡ 512) (piece : List ℕ) (end n 
         ∙ ap tally_of (sym (blocks_on file piece))
 
     filled-front : take (end + n) filled ≡ left ++ take n piece
-    filled-front =
-        take-paste r.rest end piece n (omega arith) (omega arith)
-        ∙ ap (λ (l : List ℕ). l ++ take n piece) (ap (λ (k : ℕ). take k r.rest) ends_there ∙ known.rest)
+    filled-front = front ∙ ap (λ (l : List ℕ). l ++ take n piece) (ap (λ (k : ℕ). take k r.rest) ends_there ∙ known.rest)
 
-    short : end + n < 512 → After (file ++ piece) (record { tally = r.tally; rest = filled; over = end + n })
+    short : end + n < 512 → s.tally ≡ r.tally → s.over ≡ end + n → s.rest ≡ filled → After (file ++ piece) s
     unfolding counted_all
-    short h =
+    short h t o e =
         let all : take n piece ≡ piece = take_all n piece (omega arith) in
         let size : length (left ++ piece) ≡ end + n = omega (arith, length-append left piece, known.over, ends_there) in
         let few : length (left ++ piece) < 512 = omega arith in
         let stays : left_over (file ++ piece) ≡ left ++ piece = left_on file piece ∙ left_short (left ++ piece) few in
         record {
-          counts = ap (counted_all r.tally) (sym (blocks_short (left ++ piece) few)) ∙ grown;
-          over = sym (ap length stays ∙ size);
-          rest = filled-front ∙ ap (λ (l : List ℕ). left ++ l) all ∙ sym stays;
+          counts = t ∙ ap (counted_all r.tally) (sym (blocks_short (left ++ piece) few)) ∙ grown;
+          over = o ∙ sym (ap length stays ∙ size);
+          rest = ap₂ take o e ∙ filled-front ∙ ap (λ (l : List ℕ). left ++ l) all ∙ sym stays;
         }
 
-    full : 512 ≤ end + n → (s : Reading) → Settled (counted_all (counted_all r.tally (blocks_of filled)) (blocks_of (drop n piece))) (drop n piece) s → After (file ++ piece) s
-    full h s settled =
-        let size : length filled ≡ 512 = length-paste r.rest end piece n (omega arith) (omega arith) ∙ long in
+    full : length filled ≡ 512 → 512 ≤ end + n → Settled (counted_all (counted_all r.tally (blocks_of filled)) (blocks_of (drop n piece))) (drop n piece) s → After (file ++ piece) s
+    full size h settled =
         let block : filled ≡ left ++ take n piece = sym (take_all (end + n) filled (omega arith)) ∙ filled-front in
         let whole : length (left ++ take n piece) % 512 ≡ 0 = omega (arith, ap length block) in
         let cut : left ++ piece ≡ (left ++ take n piece) ++ drop n piece = ap (λ (l : List ℕ). left ++ l) (sym (take-append-drop n piece)) ∙ sym (append_assoc left (take n piece) (drop n piece)) in
@@ -86,9 +67,9 @@ module _ (r : Reading) (long : length r.rest ≡ 512) (piece : List ℕ) (end n 
         }
 
   -- the block is not full yet
-  pub short_on : end + n < 512 → Onwards r piece (record { tally = r.tally; rest = filled; over = end + n })
-  short_on h = record { after = λ file known. short file known h }
+  pub short_on : end + n < 512 → s.tally ≡ r.tally → s.over ≡ end + n → s.rest ≡ filled → Onwards r piece s
+  short_on h t o e = record { after = λ file known. short file known h t o e }
 
   -- it is full, and the rest of the piece is settled
-  pub full_on : 512 ≤ end + n → (s : Reading) → Settled (counted_all (counted_all r.tally (blocks_of filled)) (blocks_of (drop n piece))) (drop n piece) s → Onwards r piece s
-  full_on h s settled = record { after = λ file known. full file known h s settled }
+  pub full_on : length filled ≡ 512 → 512 ≤ end + n → Settled (counted_all (counted_all r.tally (blocks_of filled)) (blocks_of (drop n piece))) (drop n piece) s → Onwards r piece s
+  full_on size h settled = record { after = λ file known. full file known size h settled }

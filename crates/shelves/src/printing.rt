@@ -10,10 +10,7 @@ use crate::Reading;
 fn number(counts: &[u32], k: usize) -> usize
     ensures { result ≡ get_or counts.now k 0 }
 {
-    if k < counts.len() {
-        return counts[k] as usize;
-    }
-    0
+    counts.get(k).map_or(0, |n| *n as usize)
 }
 
 // A word and a number.
@@ -49,10 +46,8 @@ fn count_lines(
     ensures { Laid text.old at (count_lines word.now (λ (k : ℕ). get_or counts.now k 0) (counting from n)) text.new result }
 {
     let mut end = at;
-    let mut i: usize = 0;
-    while i < n {
+    for i in 0..n {
         end = count_line(text, end, word, from + i, number(counts, from + i));
-        i += 1;
     }
     end
 }
@@ -79,12 +74,10 @@ fn other_lines(text: &mut [u8], at: usize, over: usize, ops: &[u32]) -> usize
 pub fn report(text: &mut [u8], r: Reading) -> usize
     ensures { Laid text.old 0 (text_of r) text.new result }
 {
-    let tally = r.tally;
-    if 65535 < tally.blocks {
-        return number_line(text, 0, b"refused ", 16);
+    if 65535 < r.tally.blocks {
+        number_line(text, 0, b"refused ", 16)
+    } else {
+        let behind_blocks = block_lines(text, r.tally.blocks as usize, &r.tally.codes);
+        other_lines(text, behind_blocks, r.over, &r.tally.ops)
     }
-    let codes = tally.codes;
-    let behind_blocks = block_lines(text, tally.blocks as usize, &codes);
-    let ops = tally.ops;
-    other_lines(text, behind_blocks, r.over, &ops)
 }

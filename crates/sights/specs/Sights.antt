@@ -1,5 +1,5 @@
 -- Questions that the kept sets answer. Assumes nothing.
-use Rattle.std.specs.Prelude.{◌≡◌, Bool, true, false, ◌&&◌, ◌||◌, List, ℕ, ◌/◌, ◌%◌, ◌≤◌, ◌<◌, eqb}
+use Rattle.std.specs.Prelude.{◌≡◌, Bool, true, ◌&&◌, ◌||◌, List, ℕ, ◌/◌, ◌%◌, ◌≤◌, ◌<◌, eqb}
 use Rattle.words.specs.Sets.{has}
 use Rattle.rules.specs.Kinds.{writing, held_by}
 use Rattle.cases.specs.declared.Case.{Case}

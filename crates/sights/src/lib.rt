@@ -13,6 +13,8 @@ ghost use Rattle.machine.specs.Shown.{name_of};
 ghost use Rattle.machine.specs.Kept.{Kept};
 ghost use Rattle.sights.specs.Sights.{holding, Held, KindAt, HoldRow, Names, Sight};
 
+use machine::Machine;
+
 // The numbers below n of a set.
 pub fn below(x: u64, n: usize) -> u64
     requires { n < 64 }
@@ -57,8 +59,7 @@ fn of_kinds(sets: &[u64; 21], kinds: u64) -> u64
     let mut items: u64 = 0;
     let mut rest = kinds;
     while 0 < rest {
-        let more = of_kind(sets, orders::lowest(rest));
-        items = more | items;
+        items |= of_kind(sets, orders::lowest(rest));
         rest = orders::others(rest);
     }
     items
@@ -72,8 +73,7 @@ fn holding_items(sets: &[u64; 21], kind: u8, loc: u8) -> u64
     let row = hold_row(kind);
     let all = of_kinds(sets, row % 256);
     let same = of_kinds(sets, row / 256);
-    let at = sets[words::wide(loc)];
-    all | (same & at)
+    all | (same & sets[loc as usize])
 }
 
 // Whether an action of processor p before k holds back the commit of a kind at a location.
@@ -87,34 +87,30 @@ pub fn held(sets: &[u64; 21], p: usize, k: usize, kind: u8, loc: u8) -> bool
 }
 
 // Whether action k is issued and not committed.
-pub fn waits(sets: &[u64; 21], issued: usize, k: usize) -> bool
+pub fn waits(m: &Machine, k: usize) -> bool
     requires { k < 56 }
-    ensures { (c : TheCase) (s : State) → Kept c s sets.now → s.count ≡ issued → result ≡ (ltb k s.count && is_none (s.actions k).result) }
+    ensures { (c : TheCase) (s : State) → Kept c s m.now.sets → s.count ≡ m.now.issued → result ≡ (ltb k s.count && is_none (s.actions k).result) }
 {
-    let given = words::has(sets[20], 8 + k);
-    (k < issued) & !given
+    k < m.issued && !words::has(m.sets[20], 8 + k)
 }
 
 // Whether the register that a name stands for is defined.
-pub fn known<'a>(masks: &'a [u8; 4], sets: &'a [u64; 21], name: u8) -> bool
+pub fn known(masks: &[u8; 4], sets: &[u64; 21], name: u8) -> bool
     ensures { (c : TheCase) (s : State) → Names c s masks.now sets.now → result ≡ not (is_none (value_of s (name_of c name))) }
 {
-    let n = words::wide(name);
+    let n = name as usize;
     if n < 32 {
-        let mask = words::wide(masks[n / 8]) as u64;
-        return words::has(mask, n % 8);
+        words::has(masks[n / 8] as u64, n % 8)
+    } else {
+        words::has(sets[20], n - 24)
     }
-    words::has(sets[20], n - 24)
 }
 
 // What stands before item w.
 fn row_at(rows: &[u64; 56], w: usize) -> u64
     ensures { (a : ℕ) → in_set result a ≡ order_of rows.now a w }
 {
-    if w < 56 {
-        return rows[w];
-    }
-    0
+    if w < 56 { rows[w] } else { 0 }
 }
 
 // What stands before an item of a set.
@@ -124,8 +120,7 @@ fn covered(rows: &[u64; 56], items: u64) -> u64
     let mut mask: u64 = 0;
     let mut rest = items;
     while 0 < rest {
-        let more = row_at(rows, orders::lowest(rest));
-        mask = more | mask;
+        mask |= row_at(rows, orders::lowest(rest));
         rest = orders::others(rest);
     }
     mask
@@ -136,10 +131,7 @@ fn with_unless(x: u64, e: usize, test: bool) -> u64
     requires { e < 64 }
     ensures { (a : ℕ) → in_set result a ≡ ((eqb a e && not test) || in_set x a) }
 {
-    if test {
-        return x;
-    }
-    words::one(e) | x
+    if test { x } else { words::one(e) | x }
 }
 
 // The items of a set that do not stand after item i.
@@ -150,21 +142,20 @@ fn not_after(rows: &[u64; 56], items: u64, i: usize) -> u64
     let mut rest = items;
     while 0 < rest {
         let e = orders::lowest(rest);
-        let late = orders::before(rows, i, e);
-        seen = with_unless(seen, e, late);
+        seen = with_unless(seen, e, orders::before(rows, i, e));
         rest = orders::others(rest);
     }
     seen
 }
 
 // The items that are visible to the read item i of location l.
-pub fn visible_items<'a>(rows: &'a [u64; 56], sets: &'a [u64; 21], l: usize, i: usize) -> u64
+pub fn visible_items(m: &Machine, l: usize, i: usize) -> u64
     requires { l < 8 }
-    ensures { (c : TheCase) (s : State) → Sight c s sets.now rows.now l i → (e : ℕ) → in_set result e ≡ visible c s l i e }
+    ensures { (c : TheCase) (s : State) → Sight c s m.now.sets m.now.rows l i → (e : ℕ) → in_set result e ≡ visible c s l i e }
 {
-    let items = sets[l];
-    let near = row_at(rows, i);
-    let gone = covered(rows, items & near);
-    let left = orders::minus(items & sets[20], gone);
-    not_after(rows, left, i)
+    let items = m.sets[l];
+    let near = row_at(&m.rows, i);
+    let gone = covered(&m.rows, items & near);
+    let left = orders::minus(items & m.sets[20], gone);
+    not_after(&m.rows, left, i)
 }

@@ -3,7 +3,6 @@ use mathlib.Core.Path.{◌≡◌, refl, sym, ap, subst, ◌∙◌}
 use mathlib.Core.Logic.{◌⊎◌, inl, inr, ⊎_elim}
 use mathlib.Core.Bool.{Bool, true, false, ◌&&◌, ◌||◌, not, cond}
 use mathlib.Core.List.{List}
-use mathlib.Core.Option.{none}
 use Prim.Native.Nat.{ℕ, suc, ◌+◌, ◌/◌, ◌%◌, ◌<◌, ◌≤◌}
 use native.Mathlib.Omega.{arith}
 use native.Mathlib.Decide.{dec_lt}
@@ -15,15 +14,12 @@ use Rattle.words.specs.Sets.{has}
 use Rattle.words.proofs.Bools.{decide, or_cases, or_left, or_right, and_both, and_make, and_left, and_right, and_true, or_nothing}
 use Rattle.words.proofs.Sets.{has_zero}
 use Rattle.cases.specs.declared.Case.{Case}
-use Rattle.cases.specs.declared.Instr.{Instr}
-use Rattle.cases.specs.declared.Instr.TheVariants.{Empty, Read, Write, Local, Branch, Goto, Acquire, Release}
-use Rattle.rules.specs.Kinds.{kind, acquiring, reads}
-use Rattle.rules.specs.State.{State, Action, kind_of, input_of, value_of, start}
-use Rattle.rules.specs.Step.{issue, commit}
-use Rattle.words.specs.Small.{or_zero}
+use Rattle.rules.specs.Kinds.{acquiring}
+use Rattle.rules.specs.State.{State, Action, kind_of}
+use Rattle.rules.specs.Step.{issue}
 use Rattle.orders.specs.Rows.{SetOf}
 use Rattle.machine.specs.declared.Entry.{Entry}
-use Rattle.machine.specs.Shown.{inputs_of, name_of, shown_entry, Acts}
+use Rattle.machine.specs.Shown.{shown_entry, Acts}
 use Rattle.machine.proofs.Entries.{action_out}
 use Rattle.sure.specs.Spent.{Key, taking, issuing, step_by, rivals, wakes}
 use Rattle.spending.specs.Words.{spent_by}
@@ -32,27 +28,12 @@ use Rattle.spending.specs.Spending.{RestedBy}
 use Rattle.spending.specs.Spending.{Cleared}
 use Rattle.spending.proofs.Spends.{key_issue}
 
--- the location of an acquire is what its one input stands for
-
-pub acquire_input : (c : Case) (s : State) (i : Instr) (x y : ℕ) → acquiring (kind i) ≡ true → or_zero (value_of s (name_of c x)) ≡ or_zero (value_of s (get_or (inputs_of c (reads i) x y) 0 (start none)))
-acquire_input c s Empty x y h = absurd (omega (arith, eqb-true 0 6 h))
-acquire_input c s (Read d a) x y h = absurd (omega (arith, eqb-true 1 6 h))
-acquire_input c s (Write a b) x y h = absurd (omega (arith, eqb-true 2 6 h))
-acquire_input c s (Local d e) x y h = absurd (omega (arith, eqb-true 3 6 h))
-acquire_input c s (Branch a l) x y h = absurd (omega (arith, eqb-true 4 6 h))
-acquire_input c s (Goto l) x y h = absurd (omega (arith, eqb-true 5 6 h))
-acquire_input c s (Acquire a) x y h = refl
-acquire_input c s (Release a) x y h = absurd (omega (arith, eqb-true 7 6 h))
-
 module _ (s : State) (a b : Action) where
   pub rivals_first : (k : ℕ) → k ≡ kind_of a → (k ≡ 6 → ⊥) → false ≡ rivals s a b
   rivals_first k q h = rw (ne_eqb (kind_of a) 6 (λ e. h (q ∙ e)))
 
   pub rivals-second : (k : ℕ) → k ≡ kind_of b → (k ≡ 6 → ⊥) → false ≡ rivals s a b
   rivals-second k q h = sym (and_right (acquiring (kind_of a)) _ (and_left (acquiring (kind_of b)) _ (ne_eqb (kind_of b) 6 (λ e. h (q ∙ e)))))
-
-  pub rivals-both : acquiring (kind_of a) ≡ true → acquiring (kind_of b) ≡ true → (x y : ℕ) → x ≡ input_of s a 0 → y ≡ input_of s b 0 → eqb x y ≡ rivals s a b
-  rivals-both h g x y p q = rw (h, g, p, q)
 
 -- nothing is cleared below 0
 
@@ -93,6 +74,21 @@ module _ (now : List ℕ) (gone : ℕ) where
         where
           below : (k ≡ n → ⊥) → k < n
           below z = omega arith
+
+  pub cleared_kept : (less : List ℕ) (n : ℕ) → n < 48 → has gone n ≡ false → Cleared now gone n less → Cleared now gone (n + 1) less
+  cleared_kept less n lt h C =
+      record {
+        long = C.long;
+        low = λ k l a. ⊎_elim (same k a) (λ q. C.low k (below k l (eqb-false k n q)) a) (decide (eqb k n));
+        lone = C.lone;
+        others = λ k l q. C.others k (omega arith) q;
+      }
+    where
+      same : (k a : ℕ) → eqb k n ≡ true → has (get_or less k 0) a ≡ (has (get_or now k 0) a && not (has gone k))
+      same k a q = rw (eqb-true k n q) (ap (λ (x : ℕ). has x a) (C.others n (omega arith) (λ z. omega arith)) ∙ word_left (get_or now n 0) a (has gone n) h)
+
+      below : (k : ℕ) → k < n + 1 → (k ≡ n → ⊥) → k < n
+      below k l z = omega arith
 
 -- the issues that stay spent
 

@@ -1,6 +1,6 @@
 -- The steps of a state as fifty words of bits: words 0 to 47 the items that the commit of read w may name, word 48 the other actions
 -- that may be committed, word 49 the processors that may issue. Assumes nothing.
-use Rattle.std.specs.Prelude.{Bool, true, false, ◌&&◌, ◌||◌, not, cond, List, ℕ, ◌/◌, ◌%◌, eqb, ltb, get_or}
+use Rattle.std.specs.Prelude.{Bool, true, ◌&&◌, ◌||◌, not, cond, List, ℕ, ◌/◌, ◌%◌, eqb, ltb, get_or}
 use Rattle.words.specs.Sets.{has}
 use Rattle.cases.specs.declared.Case.{Case}
 use Rattle.rules.specs.Kinds.{reading}

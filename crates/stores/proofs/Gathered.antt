@@ -9,15 +9,17 @@ use native.Mathlib.Numerals.{add-one}
 use native.Mathlib.Omega.{arith}
 use lib.Dec.{eqb}
 use lib.Bits.{bit_or}
-use lib.ListN.{length, get_or, set}
+use lib.ListN.{length, get_or, set, take}
+use Rattle.std.proofs.lemmas.Grind.{common_steps}
 use lib.Seq.{get_or-set_same, get_or-set_other}
 use borrow.Author.Tests.{eqb-true, eqb-false, eq-eqb, ne_eqb}
+use Rattle.std.specs.Prelude.{Some, None, is_some, unwrap_or}
+use Rattle.std.specs.List.{list_any, range_with_len}
 use Rattle.words.specs.Small.{is_none, or_zero, is, some_below}
 use Rattle.words.specs.Sets.{has}
 use Rattle.words.proofs.Sets.{has_or, has_zero, has_one}
-use Rattle.words.proofs.Bools.{bool_eq, and_make, and_left, and_right, decide, and_both}
-use Rattle.machine.specs.declared.Value.{Value}
-use Rattle.machine.specs.Shown.{shown_value}
+use Rattle.words.proofs.Bools.{bool_eq, below-same, and_make, decide, and_both}
+use Rattle.machine.specs.Shown.{Value, option_of, shown_value}
 use Rattle.boards.specs.declared.Buffering.{Buffering}
 use Rattle.boards.specs.declared.Buffering.TheVariants.{Direct, Shared, Split}
 use Rattle.boards.specs.Board.{slot, Store, filled, newer, newest_to}
@@ -25,35 +27,31 @@ use Rattle.stores.specs.declared.Logged.{Logged}
 use Rattle.boards.specs.Apart.{oldest_at}
 use Rattle.stores.specs.Log.{Waits, blank, sits_in, store_of, gathered, buffer_of}
 use Rattle.boards.specs.Apart.{oldest_at}
-use Rattle.stores.specs.Log.{Waits, buffer_by, newer_by}
+use Rattle.stores.specs.Log.{Waits, Oldest, slot_by, newer_by}
 
 -- the number of a buffer
 
-pub slot_number : (k : Buffering) (l b : ℕ) → b < 8 → eqb (buffer_by k l) b ≡ is b (slot k l)
-slot_number Direct l b h = ne_eqb 8 b (λ e. omega arith)
-slot_number Shared l b h = refl
-slot_number Split l b h = refl
+slot_shown : (k : Buffering) (l : ℕ) → option_of (is_some (slot_by k l)) (unwrap_or (slot_by k l) 0) ≡ slot k l
+slot_shown Direct l = refl
+slot_shown Shared l = refl
+slot_shown Split l = refl
 
-pub slot-some : (k : Buffering) (l : ℕ) → buffer_by k l < 8 → slot k l ≡ some (buffer_by k l)
-slot-some Direct l h = absurd (omega arith)
-slot-some Shared l h = refl
-slot-some Split l h = refl
+pub slot-some : (k : Buffering) (l b : ℕ) → slot_by k l ≡ Some b → slot k l ≡ some b
+slot-some k l b e = sym (slot_shown k l) ∙ (λ i. option_of (is_some (e i)) (unwrap_or (e i) 0))
 
-pub slot-none : (k : Buffering) (l : ℕ) → l < 8 → 8 ≤ buffer_by k l → slot k l ≡ none
-slot-none Direct l h g = refl
-slot-none Shared l h g = absurd (omega arith)
-slot-none Split l h g = absurd (omega arith)
+pub slot-none : (k : Buffering) (l : ℕ) → slot_by k l ≡ None → slot k l ≡ none
+slot-none k l e = sym (slot_shown k l) ∙ (λ i. option_of (is_some (e i)) (unwrap_or (e i) 0))
 
-is_some : (b : ℕ) (o : Option ℕ) → is b o ≡ true → o ≡ some b
-is_some b none h = absurd (false≢true h)
-is_some b (some m) h = ap some (eqb-true m b h)
+is_here : (b : ℕ) (o : Option ℕ) → is b o ≡ true → o ≡ some b
+is_here b none h = absurd (false≢true h)
+is_here b (some m) h = ap some (eqb-true m b h)
 
 -- a store sits in one buffer
 pub sits_cases : (k : Buffering) (p b : ℕ) (x : Logged) → sits_in k p b x ≡ true → (x.proc ≡ p) × (slot k x.loc ≡ some b)
 sits_cases k p b x h =
     let v = and_both x.waits _ h in
     let u = and_both (eqb x.proc p) _ v.1 in
-    (eqb-true _ _ u.0, is_some b (slot k x.loc) u.1)
+    (eqb-true _ _ u.0, is_here b (slot k x.loc) u.1)
 
 -- gathered
 
@@ -248,38 +246,33 @@ module _ (k : Buffering) (log : List Logged) (p b : ℕ) where
 
 -- the set of the buffers that hold a store
 
+or_swap : (x y : Bool) → (x || y) ≡ (y || x)
+or_swap true true = refl
+or_swap true false = refl
+or_swap false true = refl
+or_swap false false = refl
+
 two_numbers : (p b q d : ℕ) → b < 8 → d < 8 → eqb (8 * p + b) (8 * q + d) ≡ (eqb q p && eqb d b)
 two_numbers p b q d h g =
     bool_eq (eqb (8 * p + b) (8 * q + d)) (eqb q p && eqb d b)
     (λ e. let s = eqb-true (8 * p + b) (8 * q + d) e in and_make _ _ (eq-eqb q p (omega arith)) (eq-eqb d b (omega arith)))
     (λ e. let w = and_both (eqb q p) (eqb d b) e in eq-eqb (8 * p + b) (8 * q + d) (omega (arith, eqb-true q p w.0, eqb-true d b w.1)))
 
-module _ (k : Buffering) (x : Logged) (p b : ℕ) (low : p < 4) (few : b < 8) where
-  -- it waits in buffer d of processor q
-  pub home_set : (q d : ℕ) → q ≡ x.proc → d ≡ buffer_by k x.loc → x.waits ≡ true → d < 8 → has (2 ^ (8 * q + d)) (8 * p + b) ≡ sits_in k p b x
-  home_set q d eq ed w h =
-      has_one (8 * q + d) (8 * p + b) ∙ two_numbers p b q d few h
-      ∙ ap₂ (λ (i j : ℕ). eqb i p && eqb j b) eq ed
-      ∙ ap (λ (t : Bool). eqb x.proc p && t) (slot_number k x.loc b few)
-      ∙ sym (ap (λ (t : Bool). t && (eqb x.proc p && is b (slot k x.loc))) w)
-
-  pub home_gone : x.waits ≡ false → has 0 (8 * p + b) ≡ sits_in k p b x
-  home_gone w = has_zero (8 * p + b) ∙ sym (ap (λ (t : Bool). t && (eqb x.proc p && is b (slot k x.loc))) w)
-
-  pub home_far : 4 ≤ x.proc → has 0 (8 * p + b) ≡ sits_in k p b x
-  home_far h = has_zero (8 * p + b) ∙ sym (and_right x.waits _ (and_left (eqb x.proc p) _ (ne_eqb x.proc p (λ e. omega arith))))
-
-  pub home_memory : 8 ≤ buffer_by k x.loc → has 0 (8 * p + b) ≡ sits_in k p b x
-  home_memory h = has_zero (8 * p + b) ∙ sym (and_right x.waits _ (and_right (eqb x.proc p) _ (sym (slot_number k x.loc b few) ∙ ne_eqb (buffer_by k x.loc) b (λ e. omega arith))))
+-- it waits in buffer d of its processor
+pub home_set : (k : Buffering) (x : Logged) (p b d : ℕ) → b < 8 → slot_by k x.loc ≡ Some d → x.waits ≡ true → d < 8 → has (2 ^ (8 * x.proc + d)) (8 * p + b) ≡ sits_in k p b x
+home_set k x p b d few e w h =
+    has_one (8 * x.proc + d) (8 * p + b) ∙ two_numbers p b x.proc d few h
+    ∙ ap (λ (o : Option ℕ). eqb x.proc p && is b o) (sym (slot-some k x.loc d e))
+    ∙ sym (ap (λ (t : Bool). t && (eqb x.proc p && is b (slot k x.loc))) w)
 
 module _ (k : Buffering) (log : List Logged) where
   -- one more of the log
-  pub waits_next : (j found h : ℕ) → Waits k log j found → ((p b : ℕ) → p < 4 → b < 8 → has h (8 * p + b) ≡ sits_in k p b (get_or log j blank)) → Waits k log (j + 1) (bit_or h found)
+  pub waits_next : (j found h : ℕ) → Waits k log j found → ((p b : ℕ) → p < 4 → b < 8 → has h (8 * p + b) ≡ sits_in k p b (get_or log j blank)) → Waits k log (j + 1) (bit_or found h)
   unfolding gathered
   waits_next j found h W s =
       record {
         holds = λ p b low few. rw (add-one j)
-            (has_or h found (8 * p + b)
+            (has_or found h (8 * p + b) ∙ or_swap (has found (8 * p + b)) (has h (8 * p + b))
             ∙ ap₂ ◌||◌ (s p b low few) (W.holds p b low few)
             ∙ sym (filled_step (λ i. store_of (get_or log i blank)) (buffer_of k log j p b) (sits_in k p b (get_or log j blank)) (store_of (get_or log j blank))));
       }
@@ -287,3 +280,66 @@ module _ (k : Buffering) (log : List Logged) where
   pub waits-none : Waits k log 0 0
   unfolding gathered
   waits-none = record { holds = λ p b low few. has_zero (8 * p + b) }
+
+-- some number of a range passes a test
+
+below_first : (f : ℕ → Bool) (n : ℕ) → some_below (suc n) f ≡ (f 0 || some_below n (λ i. f (suc i)))
+unfolding some_below
+below_first f zero = refl
+below_first f (suc n) = ap (λ (t : Bool). f (suc n) || t) (below_first f n) ∙ exchange (f (suc n)) (f 0) (some_below n (λ i. f (suc i)))
+  where
+    exchange : (x y z : Bool) → (x || (y || z)) ≡ (y || (x || z))
+    exchange true true z = refl
+    exchange true false z = refl
+    exchange false y z = refl
+
+range_any : (f : ℕ → Bool) (n a : ℕ) → list_any f (range_with_len a n) ≡ some_below n (λ i. f (a + i))
+unfolding some_below
+range_any f zero a = refl
+range_any f (suc n) a =
+    (λ i. f a || range_any f n (a + 1) i) ∙ ap₂ ◌||◌ (ap f (omega arith)) (below-same n _ _ (λ i l. ap f (omega arith))) ∙ sym (below_first (λ i. f (a + i)) n)
+
+pub any_below : (f : ℕ → Bool) (n : ℕ) → list_any f (range_with_len 0 n) ≡ some_below n f
+any_below f n = range_any f n 0 ∙ below-same n _ _ (λ i l. ap f (omega arith))
+
+-- the stores that are in the log so far
+
+module _ (log : List Logged) (n : ℕ) (few : n ≤ length log) {l : List Logged} (e : l ≡ take n log) where
+  taken_at : (j : ℕ) → j < n → get_or l j blank ≡ get_or log j blank
+  taken_at j h = rw e (grind (arith, common_steps))
+
+  pub taken_long : length l ≡ n
+  taken_long = rw e (grind (arith, common_steps))
+
+  taken_below : (k : Buffering) (p b m : ℕ) → m ≤ n → buffer_of k l m p b ≡ buffer_of k log m p b
+  unfolding gathered
+  taken_below k p b zero h = refl
+  taken_below k p b (suc m) h = ap₂ (λ (xs : List Store) (y : Logged). xs ++ cond (sits_in k p b y) (store_of y ∷ []) []) (taken_below k p b m (omega arith)) (taken_at m (omega arith))
+
+  pub taken_buffer : (k : Buffering) (p b : ℕ) → buffer_of k l (length l) p b ≡ buffer_of k log n p b
+  taken_buffer k p b = ap (λ (m : ℕ). buffer_of k l m p b) taken_long ∙ taken_below k p b n (omega arith)
+
+  pub taken_oldest : (k : Buffering) (p b r : ℕ) → Oldest k l (length l) p b r → Oldest k log n p b r
+  taken_oldest k p b r o =
+      record {
+        most = omega (arith, o.most, taken_long);
+        found = λ h. ap (sits_in k p b) (sym (taken_at r h)) ∙ o.found (omega (arith, taken_long));
+        before = λ j h. ap (sits_in k p b) (sym (taken_at j (omega (arith, o.most, taken_long)))) ∙ o.before j h;
+      }
+
+  -- none is the oldest
+  pub taken-none : (k : Buffering) (p b : ℕ) → Oldest k l (length l) p b (length l) → Oldest k log n p b n
+  taken-none k p b o = subst (Oldest k log n p b) taken_long (taken_oldest k p b (length l) o)
+
+  pub taken_waits : (k : Buffering) (w : ℕ) → Waits k l (length l) w → Waits k log n w
+  taken_waits k w W = record { holds = λ p b low few. W.holds p b low few ∙ ap filled (taken_buffer k p b) }
+
+-- the location of the oldest
+
+module _ (k : Buffering) (log : List Logged) (n p b : ℕ) where
+  pub oldest_location : (j : ℕ) → j < n → Oldest k log n p b j → oldest_at (buffer_of k log n p b) ≡ some (get_or log j blank).loc
+  oldest_location j low o =
+      ap oldest_at (gathered_first (λ i. store_of (get_or log i blank)) (λ i. sits_in k p b (get_or log i blank)) n j low (o.found low) o.before)
+
+  pub oldest-none : Oldest k log n p b n → oldest_at (buffer_of k log n p b) ≡ none
+  oldest-none o = ap oldest_at (gathered_none (λ i. store_of (get_or log i blank)) (λ i. sits_in k p b (get_or log i blank)) n o.before)

@@ -1,8 +1,9 @@
 -- The buffers that a log of stores shows. Assumes nothing.
 use Rattle.std.specs.Prelude.{◌≡◌, Bool, true, false, ◌&&◌, cond, List, [], ◌∷◌, ◌++◌, ℕ, zero, suc, ◌+◌, ◌*◌, ◌≤◌, ◌<◌, eqb, get_or}
+use Rattle.std.specs.Prelude.{Option, Some, None}
 use Rattle.words.specs.Small.{is}
 use Rattle.words.specs.Sets.{has}
-use Rattle.machine.specs.declared.Value.{Value}
+use Rattle.machine.specs.Shown.{Value}
 use Rattle.boards.specs.declared.Buffering.{Buffering}
 use Rattle.boards.specs.declared.Buffering.TheVariants.{Direct, Shared, Split}
 use Rattle.boards.specs.Board.{slot, Store, filled}
@@ -34,9 +35,15 @@ buffer_by Direct l = 8
 buffer_by Shared l = 0
 buffer_by Split l = l
 
+-- The same, with nothing where it enters none.
+abbrev pub slot_by : Buffering → ℕ → Option ℕ
+slot_by Direct l = None
+slot_by Shared l = Some 0
+slot_by Split l = Some l
+
 -- A value, or an older one.
 abbrev pub newer_by : Bool → ℕ → Value → Value
-newer_by there x old = cond there (record { known = true; value = x }) old
+newer_by there x old = cond there (Some x) old
 
 -- w is the set of the buffers that hold a store of the first n of the log, buffer b of processor p as 8p + b.
 pub record Waits (k : Buffering) (log : List Logged) (n w : ℕ) : Type 0 where

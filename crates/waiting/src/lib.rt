@@ -1,8 +1,9 @@
 // Why the processors wait after a schedule.
 #![tactic(auto)]
 
-ghost use Rattle.std.specs.Prelude.{◌≡◌, cond, ◌≤◌, ltb, length};
+ghost use Rattle.std.specs.Prelude.{◌≡◌, ◌≤◌, ◌<◌, length, IfSome, unwrap_or};
 ghost use Rattle.cases.specs.declared.Case.{Case as TheCase};
+ghost use Rattle.rules.specs.Kinds.{kind, acquiring};
 ghost use Rattle.rules.specs.State.{State};
 ghost use Rattle.machine.specs.Shown.{shown, Presets, Acts};
 ghost use Rattle.committing.specs.Given.{Asking, Arrays};
@@ -11,96 +12,69 @@ ghost use Rattle.progress.specs.Causes.{oldest as oldest_of, reason as reason_of
 ghost use Rattle.waiting.specs.Behind.{behind as behind_of};
 ghost use Rattle.waiting.specs.Why.{IsWhy};
 
-use cases::Case;
+use cases::{Case, Instr};
 use machine::Machine;
 use replaying::Replayed;
 
-// The number of the oldest queued action of processor p; that of the issued actions where there is none.
-fn oldest(acts: &[u64; 48], issued: usize, p: usize) -> usize
-    requires { issued ≤ 48 }
-    ensures { (c : TheCase) (s : State) → Acts c issued acts.now s → result ≡ oldest_of s p }
+// The oldest queued action of processor p.
+fn oldest(m: &Machine, p: usize) -> Option<usize>
+    requires { m.now.issued ≤ 48 }
+    ensures there { IfSome result (λ k. k < m.now.issued) }
+    ensures lowest { (c : TheCase) (s : State) → Acts c m.now.issued m.now.acts s → unwrap_or result s.count ≡ oldest_of s p }
 {
-    let mut k: usize = 0;
-    while k < issued {
-        let e = machine::entry_at(acts, k);
-        if machine::queued(e, p) {
-            return k;
+    for k in 0..m.issued {
+        if machine::queued(machine::entry_at(&m.acts, k), p) {
+            return Some(k);
         }
-        k += 1;
     }
-    issued
+    None
 }
 
-// The reason behind a code of an oldest action's commit.
+// Whether an instruction is an acquire.
+fn acquires(i: Instr) -> bool
+    ensures { result ≡ acquiring (kind i) }
+{
+    matches!(i, Instr::Acquire(_))
+}
+
+// The reason behind a code of an oldest action's commit. A number, not an enum: `womm_why` hands it over, and `behind` of specs names it.
 fn behind(code: u8, acquire: bool) -> u8
     ensures { result ≡ behind_of code acquire }
 {
-    if code == 29 {
-        return 2;
+    match code {
+        29 => 2,
+        30 => 3,
+        31 if acquire => 4,
+        31 => 5,
+        _ => 1,
     }
-    if code == 30 {
-        return 3;
-    }
-    if code == 31 {
-        if acquire {
-            return 4;
-        }
-        return 5;
-    }
-    1
 }
 
 // Why processor p waits: 0 nothing is queued, 1 its oldest action may commit, 2 to 5 the cause.
-fn reason<'a>(
-    masks: &'a [u8; 4],
-    presets: &'a [u16; 32],
-    acts: &'a [u64; 48],
-    rows: &'a [u64; 56],
-    sets: &'a [u64; 21],
-    holders: &'a [u8; 8],
-    locs: u8,
-    issued: usize,
-    p: usize,
-) -> u8
-    requires { Asking issued holders.now p }
-    ensures { (c : TheCase) (s : State) → Presets c masks.now presets.now → Acts c issued acts.now s → Arrays c s issued acts.now rows.now sets.now holders.now locs → result ≡ reason_of c s p }
+fn reason(case: &Case, m: &Machine, p: usize) -> u8
+    requires { Asking m.now.issued m.now.holders p }
+    ensures { (c : TheCase) (s : State) → Presets c case.now.masks case.now.presets → Acts c m.now.issued m.now.acts s → Arrays c s m.now.issued m.now.acts m.now.rows m.now.sets m.now.holders case.now.locs → result ≡ reason_of c s p }
 {
-    let k = oldest(acts, issued, p);
-    if issued <= k {
-        return 0;
+    match oldest(m, p) {
+        None => 0,
+        Some(k) => {
+            let code = committing::commit_code(case, m, p, k, 0);
+            behind(code, acquires(machine::entry_at(&m.acts, k).instr))
+        }
     }
-    let code = committing::commit_code(
-        masks, presets, acts, rows, sets, holders, locs, issued, p, k, 0,
-    );
-    behind(code, machine::kind_at(acts, k) == 6)
-}
-
-// This byte for processor p, 0 where it is absent.
-fn if_present(procs: usize, p: usize, byte: u8) -> u8
-    ensures { result ≡ cond (ltb p procs) byte 0 }
-{
-    if p < procs {
-        return byte;
-    }
-    0
 }
 
 // Writes the reasons of a machine into a buffer of 4 bytes, 0 of an absent processor.
-fn show(c: Case, m: Machine, causes: &mut [u8])
-    requires { Showing c m 4 causes.old }
-    ensures { causes.new ≡ reasons c (shown c m) }
+fn show(case: &Case, m: &Machine, causes: &mut [u8])
+    requires { Showing case.now m.now 4 causes.old }
+    ensures { causes.new ≡ reasons case.now (shown case.now m.now) }
 {
-    let procs = words::wide(c.procs);
-    let locs = c.locs;
-    let issued = m.issued;
-    let mut p: usize = 0;
-    while p < 4 {
-        let cause = reason(
-            &c.masks, &c.presets, &m.acts, &m.rows, &m.sets, &m.holders, locs, issued, p,
-        );
-        let b = if_present(procs, p, cause);
-        causes[p] = b;
-        p += 1;
+    for p in 0..4 {
+        causes[p] = if p < case.procs as usize {
+            reason(case, m, p)
+        } else {
+            0
+        };
     }
 }
 
@@ -108,25 +82,14 @@ fn show(c: Case, m: Machine, causes: &mut [u8])
 pub fn why(block: &[u8], schedule: &[u8], causes: &mut [u8]) -> Replayed
     ensures { IsWhy block.now schedule.now (length causes.old) result causes.new }
 {
-    let read = cases::read_case(block);
-    let code = replaying::refusal(read.code, schedule.len(), causes.len(), 4);
-    if code != 0 {
-        records::clear(causes);
-        return Replayed {
-            code,
-            steps: 0,
-            place: 255,
-            position: read.position,
-        };
-    }
-    let c = read.case;
-    let w = replaying::walk(c, schedule);
-    let m = w.machine;
-    show(c, m, causes);
-    Replayed {
-        code: w.code,
-        steps: w.steps,
-        place: w.place,
-        position: 0,
+    match replaying::take_up(block, schedule, causes.len(), 4) {
+        Ok(t) => {
+            show(&t.case, &t.walked.machine, causes);
+            Replayed::from(t.walked)
+        }
+        Err(refused) => {
+            records::clear(causes);
+            refused
+        }
     }
 }

@@ -1,4 +1,5 @@
 // The library for a host in another language: byte slices and numbers. `womm_c` exports it to C.
+// C reads what comes back: so codes, marks and places are numbers, 255 is no action or no instruction, and answers go out through `&mut`, but for the record of `womm_ask`.
 #![tactic(auto)]
 
 ghost use Rattle.std.specs.Prelude.{length};
@@ -124,7 +125,7 @@ pub struct Answer {
 }
 
 // Asks with clauses that are held by value.
-fn ask_held<'b, 's>(block: &'b [u8], bound: u32, asked: Asked, schedule: &'s mut [u8]) -> Answer
+fn ask_held(block: &[u8], bound: u32, asked: Asked, schedule: &mut [u8]) -> Answer
     ensures { AskedAs block.now bound (clauses_of asked) (length schedule.old) result schedule.new }
 {
     let answer = asking::ask(block, bound, asked, schedule);
@@ -138,21 +139,14 @@ fn ask_held<'b, 's>(block: &'b [u8], bound: u32, asked: Asked, schedule: &'s mut
 }
 
 // Asks whether a finished run within a bound meets all of the clauses, and by which schedule: each clause of the lent slice is read once.
-pub fn womm_ask<'b, 'c, 's>(
-    block: &'b [u8],
-    bound: u32,
-    clauses: &'c [Clause],
-    schedule: &'s mut [u8],
-) -> Answer
+pub fn womm_ask(block: &[u8], bound: u32, clauses: &[Clause], schedule: &mut [u8]) -> Answer
     ensures { AskedAs block.now bound clauses.now (length schedule.old) result schedule.new }
 {
-    let mut a = clauses::no_clauses();
-    let mut i = 0;
-    while i < clauses.len() {
-        a = clauses::with_clause(a, clauses[i]);
-        i += 1;
+    let mut asked = clauses::no_clauses();
+    for clause in clauses {
+        asked = clauses::with_clause(asked, *clause);
     }
-    ask_held(block, bound, a, schedule)
+    ask_held(block, bound, asked, schedule)
 }
 
 // Judges a boot hand-off: the code, the verdict (0 safe, 1 stale, 2 stuck), and the lowest stale schedule with its length in bytes.

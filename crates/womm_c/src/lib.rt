@@ -83,11 +83,11 @@ pub extern "C" fn womm_outcomes(
 }
 
 #[unsafe(no_mangle)]
-pub extern "C" fn womm_ask<'b, 'c, 's>(
-    block: &'b [u8],
+pub extern "C" fn womm_ask(
+    block: &[u8],
     bound: u32,
-    clauses: &'c [Clause],
-    schedule: &'s mut [u8],
+    clauses: &[Clause],
+    schedule: &mut [u8],
 ) -> Answer
     ensures { AskedAs block.now bound clauses.now (length schedule.old) result schedule.new }
 {

@@ -10,17 +10,14 @@ pub fn one(k: usize) -> u64
     requires { k < 64 }
     ensures { result ≡ 2 ^ k }
 {
-    1u64 << k
+    1 << k
 }
 
 // Whether k is in the set x.
 pub fn has(x: u64, k: usize) -> bool
     ensures { result ≡ in_set x k }
 {
-    if k < 64 {
-        return (x >> k) % 2 == 1;
-    }
-    false
+    k < 64 && (x >> k) % 2 == 1
 }
 
 // A byte as an index.
@@ -34,8 +31,5 @@ pub fn wide(x: u8) -> usize
 pub fn byte(bytes: &[u8], i: usize) -> u8
     ensures { Exact (get_or bytes.now i 0) 256 result }
 {
-    if i < bytes.len() {
-        return bytes[i];
-    }
-    0
+    bytes.get(i).copied().unwrap_or(0)
 }

@@ -15,7 +15,7 @@ pub fn write_text(case: Case, out: &mut [u8]) -> TextWritten
     ensures { (result ≡ text_fault case (length out.old)) × (out.new ≡ text_written case (length out.old)) }
 {
     let fault = writer::fault(case);
-    records::clear(out);
+    out.fill(0);
     if fault.code != 0 {
         return TextWritten {
             code: fault.code,
@@ -32,7 +32,7 @@ pub fn write_text(case: Case, out: &mut [u8]) -> TextWritten
             position: 0,
         };
     }
-    lines::word(out, 0, &page[..n]);
+    out[..n].copy_from_slice(&page[..n]);
     TextWritten {
         code: 0,
         length: n,
@@ -45,15 +45,13 @@ pub fn block_to_text(block: &[u8], out: &mut [u8]) -> TextWritten
     ensures { Texts block.now (length out.old) result out.new }
 {
     let read = cases::read_case(block);
-    let code = read.code;
-    if code != 0 {
-        records::clear(out);
+    if read.code != 0 {
+        out.fill(0);
         return TextWritten {
-            code,
+            code: read.code,
             length: 0,
             position: read.position,
         };
     }
-    let case = read.case;
-    write_text(case, out)
+    write_text(read.case, out)
 }

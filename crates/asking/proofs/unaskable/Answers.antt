@@ -1,34 +1,38 @@
-use mathlib.Core.Path.{◌≡◌, refl, ◌∙◌, ap}
-use mathlib.Core.Bool.{◌||◌}
-use Prim.Native.Nat.{ℕ, suc, ◌+◌, ◌<◌}
+use mathlib.Core.Path.{◌≡◌, refl, sym, ◌∙◌, ap}
+use mathlib.Core.Bool.{true, false, ◌||◌}
+use Prim.Native.Nat.{ℕ, suc, ◌+◌}
 use native.Mathlib.Omega.{arith}
 use lib.ListN.{length, take}
 use borrow.Author.Rules.{rules}
 use Rattle.words.specs.Small.{any}
 use Rattle.cases.proofs.Puts.{long_of}
-use Rattle.clauses.specs.Wanted.{no_clause}
 use Rattle.asking.specs.Asked.{bad_clause}
-use Rattle.asking.proofs.Held.{any_more, bad_many, bad_some}
+use Rattle.asking.proofs.Held.{any_more, any_at, any_all, bad_many, bad_some}
 use Rattle.asking.proofs.unaskable.Goals as goal
 
-pub returns-then-top-gt8 : goal.returns-then-top-gt8
-returns-then-top-gt8 c = let a = c.args in let long : length a.asked.clauses ≡ 8 = search (long_of, rules) in bad_many a.procs a.asked long c.if-top-gt8.true
+pub returns-then-asked-gt8 : goal.returns-then-asked-gt8
+returns-then-asked-gt8 c = let a = c.args in let long : length a.asked.clauses ≡ 8 = search (long_of, rules) in bad_many a.procs a.asked long c.if-asked-gt8.true
 
-pub loop-i-init : goal.loop-i-init
-loop-i-init c = (refl, omega arith)
+pub loop-k-init : goal.loop-k-init
+loop-k-init c = refl
 
-pub loop-i-preserved : goal.loop-i-preserved
-loop-i-preserved c =
+pub returns-then-unnamed : goal.returns-then-unnamed
+returns-then-unnamed c =
     let a = c.args in
-    let i = c.loop-i.i in
-    let f = bad_clause a.procs in
     let long : length a.asked.clauses ≡ 8 = search (long_of, rules) in
-    let inside : i < length a.asked.clauses = omega (arith, long, c.loop-i-test.true) in
-    let one : suc i ≡ i + 1 = omega arith in
-    ((λ k. c.unnamed-b.ensures k || c.loop-i.invariant.0 k) ∙ any_more f a.asked.clauses i no_clause inside ∙ ap (λ (k : ℕ). any f (take k a.asked.clauses)) one, omega (arith, c.loop-i-test.true))
+    bad_some a.procs a.asked true long c.if-asked-gt8.false (sym (any_at (bad_clause a.procs) (take a.asked.count a.asked.clauses) c.loop-k.k-index _ c.loop-k-test.true (sym c.if-unnamed.ensures)))
+
+pub loop-k-preserved : goal.loop-k-preserved
+loop-k-preserved c =
+    let a = c.args in
+    let f = bad_clause a.procs in
+    let items = take a.asked.count a.asked.clauses in
+    let one : suc c.loop-k.k-index ≡ c.loop-k.k-index + 1 = omega arith in
+    ap (λ (k : ℕ). any f (take k items)) (sym one) ∙ sym (any_more f items c.loop-k.k-index _ c.loop-k-test.true) ∙ (λ i. sym c.if-unnamed.ensures i || c.loop-k.invariant i)
 
 pub returns : goal.returns
 returns c =
     let a = c.args in
+    let items = take a.asked.count a.asked.clauses in
     let long : length a.asked.clauses ≡ 8 = search (long_of, rules) in
-    bad_some a.procs a.asked c.loop-i.i c.loop-i.found long c.if-top-gt8.false c.loop-i.invariant.1 c.loop-i-test.false c.loop-i.invariant.0
+    bad_some a.procs a.asked false long c.if-asked-gt8.false (sym c.loop-k.invariant ∙ any_all (bad_clause a.procs) items c.loop-k.k-index c.loop-k-test.false)

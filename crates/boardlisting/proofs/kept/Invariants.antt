@@ -1,6 +1,6 @@
 use mathlib.Core.Path.{◌≡◌}
 use mathlib.Core.Bool.{true}
-use Prim.Native.Nat.{ℕ, ◌≤◌, ◌-◌}
+use Prim.Native.Nat.{ℕ}
 use Rattle.words.specs.Sets.{has}
 use Rattle.boards.specs.Apart.{apart}
 use Rattle.running.specs.Shown.{shown}
@@ -8,7 +8,4 @@ use Rattle.boardlisting.specs.Moves.{move_at}
 use Rattle.boardlisting.proofs.kept.Given as goal
 
 abbrev pub invariant-loop-j : goal.invariant-loop-j
-invariant-loop-j l = (l.j ≤ 36) × ((x : ℕ) → has l.left x ≡ true → (has l.done x ≡ true) × (apart l.k l.c (shown l.k l.c l.s) (move_at l.i) (move_at x) ≡ true))
-
-abbrev pub decreases-loop-j : goal.decreases-loop-j
-decreases-loop-j l = 36 - l.j
+invariant-loop-j l = ((x : ℕ) → has l.left x ≡ true → (has l.done x ≡ true) × (apart l.k l.case (shown l.k l.case l.s) (move_at l.i) (move_at x) ≡ true))

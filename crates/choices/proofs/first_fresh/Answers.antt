@@ -20,7 +20,7 @@ returns-then-not-is_spent c =
     let i = c.is_spent in
     let e = c.lowest in
     let a = c.args in
-    fresh_here a.word a.spent.now a.j a.end c.requires c.loop-rest.rest c.loop-rest.invariant e.result e.ensures c.loop-rest-test.true c.if-end-i.false (sym i.ensures ∙ c.if-not-is_spent.true)
+    (c.if-end-i.false, fresh_here a.word a.spent.now a.j a.end c.requires c.loop-rest.rest c.loop-rest.invariant e.result e.ensures c.loop-rest-test.true c.if-end-i.false (sym i.ensures ∙ c.if-not-is_spent.true))
 
 pub loop-rest-preserved : goal.loop-rest-preserved
 loop-rest-preserved c =

@@ -2,7 +2,7 @@ use Prim.Native.Nat.{◌≤◌, ◌-◌}
 use Rattle.choices.proofs.first_settled.Given as goal
 
 abbrev pub invariant-loop-k : goal.invariant-loop-k
-invariant-loop-k l = l.k ≤ l.issued
+invariant-loop-k l = l.k ≤ l.m.issued
 
 abbrev pub decreases-loop-k : goal.decreases-loop-k
-decreases-loop-k l = l.issued - l.k
+decreases-loop-k l = l.m.issued - l.k

@@ -9,7 +9,7 @@ use Rattle.choices.proofs.next_step.Given as goal
 
 abbrev pub invariant-loop-j : goal.invariant-loop-j
 invariant-loop-j l =
-    (l.at ≤ l.j) × (l.j ≤ l.to) × ((c : Case) → Lent c l.program l.counts l.masks l.presets l.procs l.locs → c.memory ≡ l.memory → Valid c (machine_of l.issued l.places l.names l.holders l.acts l.rows l.sets) → Passed c (shown c (machine_of l.issued l.places l.names l.holders l.acts l.rows l.sets)) l.spent l.at l.j)
+    (l.at ≤ l.j) × (l.j ≤ l.to) × ((c : Case) → Lent c l.program l.case.counts l.case.masks l.case.presets l.case.procs l.case.locs → c.memory ≡ l.case.memory → Valid c (machine_of l.m.issued l.m.places l.m.names l.m.holders l.m.acts l.m.rows l.m.sets) → Passed c (shown c (machine_of l.m.issued l.m.places l.m.names l.m.holders l.m.acts l.m.rows l.m.sets)) l.spent l.at l.j)
 
 abbrev pub decreases-loop-j : goal.decreases-loop-j
 decreases-loop-j l = l.to - l.j

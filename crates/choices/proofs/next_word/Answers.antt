@@ -13,6 +13,6 @@ pub returns-then-to-start : goal.returns-then-to-start
 returns-then-to-start c =
     jump c.args.reads c.args.j c.args.to c.first_of-start.result c.args.to (omega (arith, c.if-w-ge48.false)) c.first_of-start.ensures c.requires.from (omega arith) (omega (arith, c.if-to-start.true))
 
-pub returns : goal.returns
-returns c =
+pub returns-else-to-start : goal.returns-else-to-start
+returns-else-to-start c =
     jump c.args.reads c.args.j c.args.to c.first_of-start.result (64 * c.first_of-start.result) (omega (arith, c.if-w-ge48.false)) c.first_of-start.ensures (omega (arith, c.if-start-j.false)) (omega (arith, c.if-to-start.false)) (omega arith)

@@ -1,4 +1,5 @@
-use Rattle.choices.proofs.Answers.{quiet_none, quiet-some}
+use Rattle.choices.proofs.Found.{quiet_low, quiet_or}
+use Rattle.choices.proofs.Answers.{quiet_none}
 use native.Mathlib.Omega.{arith}
 use mathlib.Core.Path.{◌∙◌, sym}
 use Rattle.choices.proofs.quiet_read.Goals as goal
@@ -12,5 +13,4 @@ returns-then-not-ended c = (omega arith, λ t s E D. quiet_none t s)
 pub returns : goal.returns
 returns c =
     let f = c.first_settled in
-    let e = c.ended in
-    (f.ensures.0, λ t s E D. quiet-some t s f.result.read f.result.sources (sym (e.ensures t s E) ∙ c.if-not-ended.false) (f.ensures.1 t s D))
+    (rw c.unwrap_or.ensures (quiet_low f.result f.ensures.low), λ t s E D. rw c.unwrap_or.ensures (quiet_or t s f.result (sym (c.ended.ensures t s E) ∙ c.if-not-ended.false) (f.ensures.found t s D)))

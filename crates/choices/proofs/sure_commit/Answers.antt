@@ -15,20 +15,20 @@ loop-k-init c =
       f.ensures.found,
       λ t s E.
           let K = E.arrays.kept in
-          let fine = fine_in t s a.masks.now a.presets.now a.procs a.locs a.issued a.acts.now a.rows.now a.sets.now a.holders.now E in
-          sure_over t s (omega (arith, c.requires.few, E.present)) x.result y.result (x.ensures t s K) (y.ensures t s K) fine 0 a.issued f.result f.ensures (no_sure t s),
+          let fine = fine_in t s a.case.now.masks a.case.now.presets a.case.now.procs a.case.now.locs a.m.now.issued a.m.now.acts a.m.now.rows a.m.now.sets a.m.now.holders E in
+          sure_over t s (omega (arith, c.requires.few, E.present)) x.result y.result (x.ensures t s K) (y.ensures t s K) fine 0 a.m.now.issued f.result f.ensures (no_sure t s),
     )
 
-pub returns-then-may_commit : goal.returns-then-may_commit
-returns-then-may_commit c =
+pub returns-then-may_commit-clause-found : goal.returns-then-may_commit-clause-found
+returns-then-may_commit-clause-found c =
     let y = c.leading in
     let x = c.queued_sure in
     let a = c.args in
     let k = c.loop-k.k in
-    let l : k < a.issued = omega (arith, c.loop-k-test.true) in
+    let l : k < a.m.now.issued = omega (arith, c.loop-k-test.true) in
     λ t s E.
     let K = E.arrays.kept in
-    let fine = fine_in t s a.masks.now a.presets.now a.procs a.locs a.issued a.acts.now a.rows.now a.sets.now a.holders.now E in
+    let fine = fine_in t s a.case.now.masks a.case.now.presets a.case.now.procs a.case.now.locs a.m.now.issued a.m.now.acts a.m.now.rows a.m.now.sets a.m.now.holders E in
     sure_here t s (omega (arith, c.requires.few, E.present)) x.result y.result (x.ensures t s K) (y.ensures t s K) fine k c.may_commit.result (omega (arith, l, c.requires.issued)) (omega (arith, l, E.shows.count)) (c.loop-k.invariant.1 l) (c.may_commit.ensures t s E) c.if-may_commit.true
 
 pub loop-k-smaller : goal.loop-k-smaller
@@ -46,12 +46,12 @@ loop-k-preserved c =
       f.ensures.found,
       λ t s E.
           let K = E.arrays.kept in
-          let fine = fine_in t s a.masks.now a.presets.now a.procs a.locs a.issued a.acts.now a.rows.now a.sets.now a.holders.now E in
-          sure_over t s (omega (arith, c.requires.few, E.present)) x.result y.result (x.ensures t s K) (y.ensures t s K) fine (k + 1) a.issued f.result f.ensures (sure_refused t s k (c.loop-k.invariant.2 t s E) m.result (m.ensures t s E) c.if-may_commit.false),
+          let fine = fine_in t s a.case.now.masks a.case.now.presets a.case.now.procs a.case.now.locs a.m.now.issued a.m.now.acts a.m.now.rows a.m.now.sets a.m.now.holders E in
+          sure_over t s (omega (arith, c.requires.few, E.present)) x.result y.result (x.ensures t s K) (y.ensures t s K) fine (k + 1) a.m.now.issued f.result f.ensures (sure_refused t s k (c.loop-k.invariant.2 t s E) m.result (m.ensures t s E) c.if-may_commit.false),
     )
 
-pub returns : goal.returns
-returns c =
+pub returns-clause-found : goal.returns-clause-found
+returns-clause-found c =
     let a = c.args in
-    let q : c.loop-k.k ≡ a.issued = omega (arith, c.loop-k.invariant.0, c.loop-k-test.false) in
+    let q : c.loop-k.k ≡ a.m.now.issued = omega (arith, c.loop-k.invariant.0, c.loop-k-test.false) in
     λ t s E. sure_nowhere t s (subst (NoSure t s) (q ∙ sym E.shows.count) (c.loop-k.invariant.2 t s E))

@@ -1,17 +1,27 @@
-use Rattle.std.proofs.Common.{arith, ◌∙◌, ap, Bool, ◌&&◌, slice_index_or}
-use Rattle.clauses.specs.Wanted.{holds_in, no_clause}
-use Rattle.clauses.proofs.Upto.{none_yet, one_more, named}
+use Rattle.std.proofs.Common.{arith, ◌∙◌, ◌≡◌, ap, sym, ◌&&◌}
+use Prim.Native.Nat.{ℕ}
+use lib.ListN.{length, take}
+use Rattle.clauses.specs.Wanted.{meets_all}
+use Rattle.clauses.proofs.Upto.{none_yet, one_more, fails_at, all_of, named}
 use Rattle.clauses.proofs.meets.Goals as goal
 
-pub loop-i-init : goal.loop-i-init
-loop-i-init c = (omega arith, none_yet c.args.clauses.now c.args.outcome.now)
+pub loop-c-init : goal.loop-c-init
+loop-c-init c = none_yet c.args.clauses.now c.args.outcome.now
 
-pub and_holds-met-requires : goal.and_holds-met-requires
-and_holds-met-requires c = (c.requires.0, named c.args.clauses.now c.loop-i.i c.requires.1 c.loop-i-test.true)
+pub holds-requires : goal.holds-requires
+holds-requires c = (c.requires.0, named c.args.clauses.now c.loop-c.c-index c.requires.1 c.loop-c-test.true)
 
-pub loop-i-preserved : goal.loop-i-preserved
-loop-i-preserved c =
-    let a = c.args in (
-      omega arith,
-      c.and_holds-met.ensures ∙ ap (λ (z : Bool). z && holds_in (slice_index_or a.clauses.now c.loop-i.i no_clause) a.outcome.now) c.loop-i.invariant.1 ∙ one_more a.clauses.now a.outcome.now c.loop-i.i c.loop-i-test.true,
-    )
+pub returns-then-not-holds : goal.returns-then-not-holds
+returns-then-not-holds c =
+    fails_at c.args.clauses.now c.args.outcome.now c.loop-c.c-index c.loop-c-test.true (sym c.holds.ensures ∙ c.if-not-holds.true)
+
+pub loop-c-preserved : goal.loop-c-preserved
+loop-c-preserved c =
+    let a = c.args in
+    (λ i. c.loop-c.invariant i && (sym c.if-not-holds.false ∙ c.holds.ensures) i) ∙ one_more a.clauses.now a.outcome.now c.loop-c.c-index c.loop-c-test.true
+
+pub returns : goal.returns
+returns c =
+    let a = c.args in
+    let e : c.loop-c.c-index ≡ length a.clauses.now = omega arith in
+    c.loop-c.invariant ∙ ap (λ (k : ℕ). meets_all (take k a.clauses.now) a.outcome.now) e ∙ all_of a.clauses.now a.outcome.now

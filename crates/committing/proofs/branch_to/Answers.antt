@@ -4,5 +4,5 @@ use Rattle.committing.proofs.branch_to.Goals as goal
 pub returns-then-x-eq0 : goal.returns-then-x-eq0
 returns-then-x-eq0 c = rw (eq-eqb c.args.x 0 c.if-x-eq0.true)
 
-pub returns : goal.returns
-returns c = rw (ne_eqb c.args.x 0 c.if-x-eq0.false)
+pub returns-else-x-eq0 : goal.returns-else-x-eq0
+returns-else-x-eq0 c = rw (ne_eqb c.args.x 0 c.if-x-eq0.false)

@@ -11,7 +11,7 @@ use Rattle.committing.proofs.commit.Goals as goal
 pub entry_at-e-requires : goal.entry_at-e-requires
 entry_at-e-requires c =
     let a = c.args in
-    let m = machine_of a.issued a.places.now c.requires.names a.holders.now a.acts.now a.rows.now a.sets.now in
+    let m = machine_of a.m.now.issued a.m.now.places c.requires.names a.m.now.holders a.m.now.acts a.m.now.rows a.m.now.sets in
     let q = commit_there c.requires.case m a.p a.k a.src c.requires.accepted in
     let there : a.k < 48 = omega (arith, c.requires.accepted.valid.issued) in
     there
@@ -19,7 +19,7 @@ entry_at-e-requires c =
 pub overflow_add-k : goal.overflow_add-k
 overflow_add-k c =
     let a = c.args in
-    let m = machine_of a.issued a.places.now c.requires.names a.holders.now a.acts.now a.rows.now a.sets.now in
+    let m = machine_of a.m.now.issued a.m.now.places c.requires.names a.m.now.holders a.m.now.acts a.m.now.rows a.m.now.sets in
     let q = commit_there c.requires.case m a.p a.k a.src c.requires.accepted in
     let there : a.k < 48 = omega (arith, c.requires.accepted.valid.issued) in
     omega arith
@@ -27,7 +27,7 @@ overflow_add-k c =
 pub order_acquire-requires : goal.order_acquire-requires
 order_acquire-requires c =
     let a = c.args in
-    let m = machine_of a.issued a.places.now c.requires.names a.holders.now a.acts.now a.rows.now a.sets.now in
+    let m = machine_of a.m.now.issued a.m.now.places c.requires.names a.m.now.holders a.m.now.acts a.m.now.rows a.m.now.sets in
     let q = commit_there c.requires.case m a.p a.k a.src c.requires.accepted in
     let there : a.k < 48 = omega (arith, c.requires.accepted.valid.issued) in
     record { issued = c.requires.accepted.valid.issued; item = omega arith; rows_long = c.requires.accepted.valid.rows_long }
@@ -35,7 +35,7 @@ order_acquire-requires c =
 pub settle_sets-requires : goal.settle_sets-requires
 settle_sets-requires c =
     let a = c.args in
-    let m = machine_of a.issued a.places.now c.requires.names a.holders.now a.acts.now a.rows.now a.sets.now in
+    let m = machine_of a.m.now.issued a.m.now.places c.requires.names a.m.now.holders a.m.now.acts a.m.now.rows a.m.now.sets in
     let q = commit_there c.requires.case m a.p a.k a.src c.requires.accepted in
     let there : a.k < 48 = omega (arith, c.requires.accepted.valid.issued) in
     let low = commit_low c.requires.case m a.p a.k a.src c.requires.accepted in
@@ -44,58 +44,58 @@ settle_sets-requires c =
 pub lock-requires : goal.lock-requires
 lock-requires c =
     let a = c.args in
-    let m = machine_of a.issued a.places.now c.requires.names a.holders.now a.acts.now a.rows.now a.sets.now in
+    let m = machine_of a.m.now.issued a.m.now.places c.requires.names a.m.now.holders a.m.now.acts a.m.now.rows a.m.now.sets in
     let low = commit_low c.requires.case m a.p a.k a.src c.requires.accepted in
     record { proc = low; holders_long = c.requires.accepted.valid.holders_long }
 
-pub bounds-places-p : goal.bounds-places-p
-bounds-places-p c =
+pub bounds-m-p : goal.bounds-m-p
+bounds-m-p c =
     let a = c.args in
-    let m = machine_of a.issued a.places.now c.requires.names a.holders.now a.acts.now a.rows.now a.sets.now in
+    let m = machine_of a.m.now.issued a.m.now.places c.requires.names a.m.now.holders a.m.now.acts a.m.now.rows a.m.now.sets in
     let low = commit_low c.requires.case m a.p a.k a.src c.requires.accepted in
     low
 
 pub place_by-requires : goal.place_by-requires
 place_by-requires c =
     let a = c.args in
-    let m = machine_of a.issued a.places.now c.requires.names a.holders.now a.acts.now a.rows.now a.sets.now in
+    let m = machine_of a.m.now.issued a.m.now.places c.requires.names a.m.now.holders a.m.now.acts a.m.now.rows a.m.now.sets in
     subst (λ (e : Entry). e.place < 12) (sym c.entry_at-e.ensures) (commit_entry c.requires.case m a.p a.k a.src c.requires.accepted).place
 
-pub bounds-places-p-2 : goal.bounds-places-p-2
-bounds-places-p-2 c =
+pub bounds-m-p-2 : goal.bounds-m-p-2
+bounds-m-p-2 c =
     let a = c.args in
-    let m = machine_of a.issued a.places.now c.requires.names a.holders.now a.acts.now a.rows.now a.sets.now in
+    let m = machine_of a.m.now.issued a.m.now.places c.requires.names a.m.now.holders a.m.now.acts a.m.now.rows a.m.now.sets in
     let low = commit_low c.requires.case m a.p a.k a.src c.requires.accepted in
     low
 
 pub packed-requires : goal.packed-requires
 packed-requires c =
     let a = c.args in
-    let m = machine_of a.issued a.places.now c.requires.names a.holders.now a.acts.now a.rows.now a.sets.now in
+    let m = machine_of a.m.now.issued a.m.now.places c.requires.names a.m.now.holders a.m.now.acts a.m.now.rows a.m.now.sets in
     commit_packable c.requires.case m a.p a.k a.src c.requires.accepted c.entry_at-e.result c.result_by-result.result c.entry_at-e.ensures
 
-pub offset_bounds-acts-k : goal.offset_bounds-acts-k
-offset_bounds-acts-k c =
+pub offset_bounds-m-k : goal.offset_bounds-m-k
+offset_bounds-m-k c =
     let a = c.args in
-    let m = machine_of a.issued a.places.now c.requires.names a.holders.now a.acts.now a.rows.now a.sets.now in
+    let m = machine_of a.m.now.issued a.m.now.places c.requires.names a.m.now.holders a.m.now.acts a.m.now.rows a.m.now.sets in
     let q = commit_there c.requires.case m a.p a.k a.src c.requires.accepted in
     let there : a.k < 48 = omega (arith, c.requires.accepted.valid.issued) in
     omega arith
 
-pub bounds-acts-k : goal.bounds-acts-k
-bounds-acts-k c =
+pub bounds-m-k : goal.bounds-m-k
+bounds-m-k c =
     let a = c.args in
-    let m = machine_of a.issued a.places.now c.requires.names a.holders.now a.acts.now a.rows.now a.sets.now in
+    let m = machine_of a.m.now.issued a.m.now.places c.requires.names a.m.now.holders a.m.now.acts a.m.now.rows a.m.now.sets in
     let q = commit_there c.requires.case m a.p a.k a.src c.requires.accepted in
     let there : a.k < 48 = omega (arith, c.requires.accepted.valid.issued) in
     there
 
-pub returns : goal.returns
-returns c =
+pub returns-clause-showing : goal.returns-clause-showing
+returns-clause-showing c =
     let a = c.args in
-    λ d names starts memory ok.
-    let n = machine_of a.issued a.places.now names a.holders.now a.acts.now a.rows.now a.sets.now in
+    λ d starts memory ok.
+    let n = a.m.now in
     let s = shown d n in
-    let u : Acts d a.issued a.acts.now s = record { count = refl; actions = refl } in
+    let u : Acts d a.m.now.issued a.m.now.acts s = record { count = refl; actions = refl } in
     settled_is d n a.p a.k a.src ok c.entry_at-e.result c.entry_at-e.ensures c.kind_of-kind.result c.or_zero-v.result c.input-x.result c.input-y.result c.place_by.result c.result_by-result.result c.packed.result c.lock.new.holders c.order_acquire.new.rows c.settle_sets.new.sets
     c.kind_of-kind.ensures.0 (c.or_zero-v.ensures ∙ ap or_zero (c.item_value.ensures d s memory u)) (c.input-x.ensures d s starts u) (c.input-y.ensures d s starts u) c.order_acquire.ensures c.settle_sets.ensures c.place_by.ensures c.lock.ensures c.result_by-result.ensures c.packed.ensures

@@ -6,5 +6,5 @@ use Rattle.committing.proofs.place_by.Goals as goal
 pub returns-then-kind-eq4 : goal.returns-then-kind-eq4
 returns-then-kind-eq4 c = let a = c.args in rw (eq-eqb a.kind 4 c.if-kind-eq4.true) (c.branch_to.ensures ∙ ap (branch_to a.x a.place) c.label_of.ensures)
 
-pub returns : goal.returns
-returns c = rw (ne_eqb c.args.kind 4 c.if-kind-eq4.false)
+pub returns-else-kind-eq4 : goal.returns-else-kind-eq4
+returns-else-kind-eq4 c = rw (ne_eqb c.args.kind 4 c.if-kind-eq4.false)

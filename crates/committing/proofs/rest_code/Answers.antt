@@ -42,8 +42,8 @@ returns-then-unready c =
     (ap (λ (n : ℕ). some_below a.k (λ j. holding a.p n a.e.loc (s.actions j))) (sym q) ∙ sym (c.held.ensures x s v.names.kept (omega (arith, v.there))) ∙ c.if-held.false)
     (sym (c.unready.ensures x s v.names) ∙ c.if-unready.true)
 
-pub returns-then-kind-top : goal.returns-then-kind-top
-returns-then-kind-top c =
+pub returns-then-kind-case : goal.returns-then-kind-case
+returns-then-kind-case c =
     let a = c.args in
     let q = c.kind_of-kind.ensures.0 in
     λ x s v g.
@@ -51,7 +51,7 @@ returns-then-kind-top c =
     (ap (λ (n : ℕ). not (eqb a.src 0) && not (eqb n 1)) (sym q) ∙ c.if-src-kind.false)
     (ap (λ (n : ℕ). some_below a.k (λ j. holding a.p n a.e.loc (s.actions j))) (sym q) ∙ sym (c.held.ensures x s v.names.kept (omega (arith, v.there))) ∙ c.if-held.false)
     (sym (c.unready.ensures x s v.names) ∙ c.if-unready.false)
-    (sym ((λ j. (eqb (q j) 6 || eqb (q j) 7) && leb ((c.wide-top.ensures.0 ∙ sym v.present) j) a.x) ∙ sync_given (kind a.e.instr) x.locs a.x (input_of s (shown_entry x a.e) 0) g) ∙ c.if-kind-top.true)
+    (sym ((λ j. (eqb (q j) 6 || eqb (q j) 7) && leb ((sym v.present) j) a.x) ∙ sync_given (kind a.e.instr) x.locs a.x (input_of s (shown_entry x a.e) 0) g) ∙ c.if-kind-case.true)
 
 pub returns-then-barred_by : goal.returns-then-barred_by
 returns-then-barred_by c =
@@ -62,7 +62,7 @@ returns-then-barred_by c =
     (ap (λ (n : ℕ). not (eqb a.src 0) && not (eqb n 1)) (sym q) ∙ c.if-src-kind.false)
     (ap (λ (n : ℕ). some_below a.k (λ j. holding a.p n a.e.loc (s.actions j))) (sym q) ∙ sym (c.held.ensures x s v.names.kept (omega (arith, v.there))) ∙ c.if-held.false)
     (sym (c.unready.ensures x s v.names) ∙ c.if-unready.false)
-    (sym ((λ j. (eqb (q j) 6 || eqb (q j) 7) && leb ((c.wide-top.ensures.0 ∙ sym v.present) j) a.x) ∙ sync_given (kind a.e.instr) x.locs a.x (input_of s (shown_entry x a.e) 0) g) ∙ c.if-kind-top.false)
+    (sym ((λ j. (eqb (q j) 6 || eqb (q j) 7) && leb ((sym v.present) j) a.x) ∙ sync_given (kind a.e.instr) x.locs a.x (input_of s (shown_entry x a.e) 0) g) ∙ c.if-kind-case.false)
     (sym (c.barred_by.ensures ∙ (λ j. barred a.p (q j) (holder_of (c.holder_at.ensures j))) ∙ ap (λ (f : ℕ → Option ℕ). barred a.p (kind a.e.instr) (f a.x)) (sym v.locks) ∙ barred_given a.p (kind a.e.instr) a.x (input_of s (shown_entry x a.e) 0) s.holders g) ∙ c.if-barred_by.true)
 
 pub returns : goal.returns
@@ -70,11 +70,11 @@ returns c =
     let a = c.args in
     let q = c.kind_of-kind.ensures.0 in
     λ x s v g.
-    c.sight_code.ensures x s (read_sight x s a.masks.now a.rows.now a.sets.now a.holders.now a.locs a.e a.k _ v q)
+    c.sight_code.ensures x s (read_sight x s a.case.now.masks a.m.now.rows a.m.now.sets a.m.now.holders a.case.now.locs a.e a.k _ v q)
     ∙ ap (λ (n : ℕ). first_code_of (32 when (eqb n 1 && not (visible x s a.e.loc (8 + a.k) a.src)) ∷ [])) q
     ∙ rest_32 _ _ _ _ _ _
     (ap (λ (n : ℕ). not (eqb a.src 0) && not (eqb n 1)) (sym q) ∙ c.if-src-kind.false)
     (ap (λ (n : ℕ). some_below a.k (λ j. holding a.p n a.e.loc (s.actions j))) (sym q) ∙ sym (c.held.ensures x s v.names.kept (omega (arith, v.there))) ∙ c.if-held.false)
     (sym (c.unready.ensures x s v.names) ∙ c.if-unready.false)
-    (sym ((λ j. (eqb (q j) 6 || eqb (q j) 7) && leb ((c.wide-top.ensures.0 ∙ sym v.present) j) a.x) ∙ sync_given (kind a.e.instr) x.locs a.x (input_of s (shown_entry x a.e) 0) g) ∙ c.if-kind-top.false)
+    (sym ((λ j. (eqb (q j) 6 || eqb (q j) 7) && leb ((sym v.present) j) a.x) ∙ sync_given (kind a.e.instr) x.locs a.x (input_of s (shown_entry x a.e) 0) g) ∙ c.if-kind-case.false)
     (sym (c.barred_by.ensures ∙ (λ j. barred a.p (q j) (holder_of (c.holder_at.ensures j))) ∙ ap (λ (f : ℕ → Option ℕ). barred a.p (kind a.e.instr) (f a.x)) (sym v.locks) ∙ barred_given a.p (kind a.e.instr) a.x (input_of s (shown_entry x a.e) 0) s.holders g) ∙ c.if-barred_by.false)

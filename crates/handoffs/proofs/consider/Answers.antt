@@ -17,7 +17,7 @@ returns-then-touched_by c =
     let a = c.args in
     considered a.sending a.ready a.d a.k c.asked_for.result c.touched_by.ensures c.if-touched_by.true c.asked_for.ensures c.improve.ensures
 
-pub returns : goal.returns
-returns c =
+pub returns-else-touched_by : goal.returns-else-touched_by
+returns-else-touched_by c =
     let a = c.args in
     passed_by a.sending a.ready a.d a.k c.touched_by.ensures c.if-touched_by.false

@@ -5,5 +5,5 @@ use Rattle.handoffs.proofs.receives.Goals as goal
 pub returns-then-d-lt4 : goal.returns-then-d-lt4
 returns-then-d-lt4 c = word_read c.args.d c.args.k c.if-d-lt4.true
 
-pub returns : goal.returns
-returns c = lock_read c.args.d c.args.k c.if-d-lt4.false c.locks.ensures
+pub returns-else-d-lt4 : goal.returns-else-d-lt4
+returns-else-d-lt4 c = lock_read c.args.d c.args.k c.if-d-lt4.false c.locks.ensures

@@ -20,4 +20,4 @@ consider_two-requires c =
 pub returns : goal.returns
 returns c =
     let a = c.args in
-    low_all a.c a.n a.s a.r (all_clear a.out.now c.clear.ensures c.requires.long) c.ready_at-ready.ensures c.fresh-two.ensures c.fresh-three.ensures c.fresh-four.ensures c.consider_two-a.ensures c.consider_two.ensures
+    low_all a.case.now a.n a.s a.r (all_clear a.out.now c.clear.ensures c.requires.long) c.ready_at-ready.ensures c.fresh-two.ensures c.fresh-three.ensures c.fresh-four.ensures c.consider_two-a.ensures c.consider_two.ensures

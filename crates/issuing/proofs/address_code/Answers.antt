@@ -1,31 +1,27 @@
+use mathlib.Core.Path.{◌∙◌, sym, ap}
+use Rattle.words.specs.Refusals.{first_code_of}
 use Rattle.rules.specs.Kinds.{kind, accesses}
-use mathlib.Core.Path.{◌≡◌, ◌∙◌, sym, ap}
-use mathlib.Core.Bool.{true, false, ◌||◌}
-use Prim.Native.Nat.{ℕ}
-use lib.Dec.{eqb}
-use Rattle.issuing.proofs.Refusing.{address_unknown, address_large, address_good, address_free}
+use Rattle.machine.specs.Shown.{Value, shown_value}
+use Rattle.issuing.proofs.Refusing.{address_refusals, address_unknown, address_large, address_good, address_free}
 use Rattle.issuing.proofs.address_code.Goals as goal
 
-pub returns-then-not-v : goal.returns-then-not-v
-returns-then-not-v c =
-    let a = c.args in
-    let q : accesses (kind a.i) ≡ true = ap (λ (n : ℕ). eqb n 1 || eqb n 2) (sym c.kind_of-k.ensures.0) ∙ c.if-k.true in
-    address_unknown a.locs (accesses (kind a.i)) a.v.known a.v.value q c.if-not-v.true
+pub returns-then-not-accesses : goal.returns-then-not-accesses
+returns-then-not-accesses c = let a = c.args in address_free a.locs (accesses (kind a.i)) (shown_value a.v) (sym c.accesses.ensures ∙ c.if-not-accesses.true)
 
-pub returns-then-locs-v : goal.returns-then-locs-v
-returns-then-locs-v c =
+pub returns-in-None : goal.returns-in-None
+returns-in-None c =
     let a = c.args in
-    let q : accesses (kind a.i) ≡ true = ap (λ (n : ℕ). eqb n 1 || eqb n 2) (sym c.kind_of-k.ensures.0) ∙ c.if-k.true in
-    address_large a.locs (accesses (kind a.i)) a.v.known a.v.value q c.if-not-v.false c.if-locs-v.true
+    let b = accesses (kind a.i) in
+    address_unknown a.locs b (sym c.accesses.ensures ∙ c.if-not-accesses.false) ∙ ap (λ (o : Value). first_code_of (address_refusals a.locs b (shown_value o))) (sym c.in-None.is)
 
-pub returns-else-locs-v : goal.returns-else-locs-v
-returns-else-locs-v c =
+pub returns-in-Some : goal.returns-in-Some
+returns-in-Some c =
     let a = c.args in
-    let q : accesses (kind a.i) ≡ true = ap (λ (n : ℕ). eqb n 1 || eqb n 2) (sym c.kind_of-k.ensures.0) ∙ c.if-k.true in
-    address_good a.locs (accesses (kind a.i)) a.v.known a.v.value q c.if-not-v.false c.if-locs-v.false
+    let b = accesses (kind a.i) in
+    address_large a.locs b c.in-Some.v (sym c.accesses.ensures ∙ c.if-not-accesses.false) c.if-locs-v.true ∙ ap (λ (o : Value). first_code_of (address_refusals a.locs b (shown_value o))) (sym c.in-Some.is)
 
-pub returns-else-k : goal.returns-else-k
-returns-else-k c =
+pub returns-in-Some-2 : goal.returns-in-Some-2
+returns-in-Some-2 c =
     let a = c.args in
-    let q : accesses (kind a.i) ≡ false = ap (λ (n : ℕ). eqb n 1 || eqb n 2) (sym c.kind_of-k.ensures.0) ∙ c.if-k.false in
-    address_free a.locs (accesses (kind a.i)) a.v.known a.v.value q
+    let b = accesses (kind a.i) in
+    address_good a.locs b c.in-Some.v (sym c.accesses.ensures ∙ c.if-not-accesses.false) c.if-locs-v.false ∙ ap (λ (o : Value). first_code_of (address_refusals a.locs b (shown_value o))) (sym c.in-Some.is)

@@ -1,4 +1,4 @@
-use Prim.Native.Nat.{◌+◌, ◌≤◌, ◌-◌}
+use Prim.Native.Nat.{◌+◌}
 use Rattle.cases.specs.declared.Case.{Case}
 use Rattle.rules.specs.State.{State, Action, stands_at}
 use Rattle.orders.specs.Rows.{SetOf}
@@ -7,7 +7,4 @@ use Rattle.issuing.specs.Issued.{after}
 use Rattle.issuing.proofs.earlier.Given as goal
 
 abbrev pub invariant-loop-k : goal.invariant-loop-k
-invariant-loop-k l = (l.k ≤ l.issued) × ((c : Case) (s : State) (new : Action) → Acts c l.issued l.acts s → SetOf 8 (λ l. stands_at l new) l.writes → SetOf (8 + l.k) (after l.p new s) l.items)
-
-abbrev pub decreases-loop-k : goal.decreases-loop-k
-decreases-loop-k l = l.issued - l.k
+invariant-loop-k l = (c : Case) (s : State) (new : Action) → Acts c l.issued l.acts s → SetOf 8 (λ l. stands_at l new) l.writes → SetOf (8 + l.k) (after l.p new s) l.items

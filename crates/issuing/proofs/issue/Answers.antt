@@ -1,10 +1,11 @@
+use mathlib.Core.Path.{refl}
 use native.Mathlib.Omega.{arith}
 use Rattle.issuing.proofs.Entering.{issue_low, issue_room, issue_place, issue_packs, issue_fine, grown_is}
 use borrow.Author.Rules.{rules}
 use Rattle.issuing.proofs.issue.Goals as goal
 
-pub bounds-places-p : goal.bounds-places-p
-bounds-places-p c = issue_low c.requires.accepted
+pub bounds-m-p : goal.bounds-m-p
+bounds-m-p c = issue_low c.requires.accepted
 
 pub overflow_mul-p : goal.overflow_mul-p
 overflow_mul-p c = let low = issue_low c.requires.accepted in search rules
@@ -13,7 +14,7 @@ pub overflow_add-p : goal.overflow_add-p
 overflow_add-p c = let low = issue_low c.requires.accepted in search rules
 
 pub instr_at-i-requires : goal.instr_at-i-requires
-instr_at-i-requires c = let ok = c.requires.accepted in omega (arith, issue_low ok, issue_place ok, c.wide.ensures.0)
+instr_at-i-requires c = let ok = c.requires.accepted in omega (arith, issue_low ok, issue_place ok)
 
 pub rename-requires : goal.rename-requires
 rename-requires c =
@@ -23,7 +24,7 @@ rename-requires c =
       names-low = ok.valid.names;
       proc = issue_low ok;
       action = issue_room ok;
-      fine = issue_fine ok c.requires.coded c.wide.ensures.0 c.instr_at-i.ensures;
+      fine = issue_fine ok c.requires.coded refl c.instr_at-i.ensures;
     }
 
 pub new_entry-e-requires : goal.new_entry-e-requires
@@ -33,7 +34,7 @@ new_entry-e-requires c =
       issued = ok.valid.issued;
       names_long = search rules;
       proc = issue_low ok;
-      fine = issue_fine ok c.requires.coded c.wide.ensures.0 c.instr_at-i.ensures;
+      fine = issue_fine ok c.requires.coded refl c.instr_at-i.ensures;
     }
 
 pub join_order-requires : goal.join_order-requires
@@ -50,19 +51,19 @@ join_sets-requires c =
 pub packed-requires : goal.packed-requires
 packed-requires c = issue_packs c.requires.accepted c.new_entry-e.ensures
 
-pub offset_bounds-acts-issued : goal.offset_bounds-acts-issued
-offset_bounds-acts-issued c = omega (arith, issue_room c.requires.accepted)
+pub offset_bounds-m-k : goal.offset_bounds-m-k
+offset_bounds-m-k c = omega (arith, issue_room c.requires.accepted)
 
-pub bounds-acts-issued : goal.bounds-acts-issued
-bounds-acts-issued c = let ok = c.requires.accepted in omega (arith, issue_room ok, ok.valid.acts_long)
+pub bounds-m-k : goal.bounds-m-k
+bounds-m-k c = let ok = c.requires.accepted in omega (arith, issue_room ok, ok.valid.acts_long)
 
 pub place_after-requires : goal.place_after-requires
 place_after-requires c = issue_place c.requires.accepted
 
-pub bounds-places-p-2 : goal.bounds-places-p-2
-bounds-places-p-2 c = let ok = c.requires.accepted in omega (arith, issue_low ok, ok.valid.places_long)
+pub bounds-m-p-2 : goal.bounds-m-p-2
+bounds-m-p-2 c = let ok = c.requires.accepted in omega (arith, issue_low ok, ok.valid.places_long)
 
-pub returns : goal.returns
-returns c =
-    λ k holders coded starts ok.
-    grown_is ok coded c.wide.ensures.0 c.instr_at-i.ensures c.packed.result starts c.new_entry-e.ensures c.place_after.ensures c.packed.ensures c.rename.ensures c.join_order.ensures c.join_sets.ensures
+pub returns-clause-showing : goal.returns-clause-showing
+returns-clause-showing c =
+    λ k coded starts ok.
+    grown_is ok coded refl c.instr_at-i.ensures c.packed.result starts c.new_entry-e.ensures c.place_after.ensures c.packed.ensures c.rename.ensures c.join_order.ensures c.join_sets.ensures

@@ -1,5 +1,4 @@
-use mathlib.Core.Path.{◌∙◌}
-use native.Mathlib.Omega.{arith}
+use mathlib.Core.Path.{refl}
 use Rattle.issuing.proofs.Keeping.{keeps_entry}
 use Rattle.issuing.proofs.join_sets.Goals as goal
 
@@ -7,8 +6,6 @@ pub returns : goal.returns
 returns c =
     let a = c.args in
     let h = c.requires in
-    let q = c.wide-kind.ensures.0 ∙ c.kind_of.ensures.0 in
-    keeps_entry a.sets.now a.k c.wide-kind.result c.wide-proc.result c.wide-loc.result a.e c.with-writes.result c.with-kinds.result c.with-queue.result c.with-given.result
-    q c.wide-proc.ensures.0 c.wide-loc.ensures.0
-    (omega (arith, c.wide-kind.ensures.0, c.kind_of.ensures.1)) (omega (arith, c.wide-proc.ensures.0, h.proc)) (omega (arith, c.wide-loc.ensures.0, h.loc))
+    keeps_entry a.sets.now a.k c.kind_of-kind.result a.e.proc a.e.loc a.e c.with-writes.result c.with-kinds.result c.with-queue.result c.with-given.result
+    c.kind_of-kind.ensures.0 refl refl c.kind_of-kind.ensures.1 h.proc h.loc
     c.with-writes.ensures c.with-kinds.ensures c.with-queue.ensures c.with-given.ensures

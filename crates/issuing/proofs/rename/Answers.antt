@@ -8,7 +8,7 @@ use Rattle.issuing.proofs.rename.Goals as goal
 pub returns-then-d-lt8 : goal.returns-then-d-lt8
 returns-then-d-lt8 c =
     let a = c.args in
-    let d : c.wide-d.result ≡ assigned_by a.i = c.wide-d.ensures.0 ∙ c.assigned.ensures in
+    let d : c.assigned-d.result ≡ assigned_by a.i = c.assigned-d.ensures in
     record {
       long = length-set a.names.now _ _ ∙ c.requires.names_long;
       low = names_stored a.names.now a.p a.k _ _ c.requires.names-low c.requires.names_long c.requires.proc c.requires.action c.if-d-lt8.true (omega (arith, c.requires.action));
@@ -18,5 +18,5 @@ returns-then-d-lt8 c =
 pub returns-else-d-lt8 : goal.returns-else-d-lt8
 returns-else-d-lt8 c =
     let a = c.args in
-    let d : c.wide-d.result ≡ assigned_by a.i = c.wide-d.ensures.0 ∙ c.assigned.ensures in
+    let d : c.assigned-d.result ≡ assigned_by a.i = c.assigned-d.ensures in
     record { long = c.requires.names_long; low = c.requires.names-low; shows = λ k. names-none k a.names.now a.p a.k _ a.i c.requires.fine d c.if-d-lt8.false }

@@ -14,10 +14,10 @@ returns-then-futile_at c =
     let a = c.args in
     λ x s q h w o t. below_make s.count (futile s) k (subst (λ (n : ℕ). k < n) (sym h.count) c.loop-k-test.true)
     (c.futile_at.ensures x s (record {
-      names = record { kept = w; ends = λ j d. action_out x a.issued a.acts.now s h j (omega (arith, h.count, d)); presets = q.masks };
+      names = record { kept = w; ends = λ j d. action_out x a.m.now.issued a.m.now.acts s h j (omega (arith, h.count, d)); presets = q.masks };
       locks = o;
       there = subst (λ (n : ℕ). k < n) (sym h.count) c.loop-k-test.true;
-      action = action_at_lem x a.issued a.acts.now s h k c.loop-k-test.true ∙ ap (shown_entry x) (sym c.entry_at-e.ensures);
+      action = action_at_lem x a.m.now.issued a.m.now.acts s h k c.loop-k-test.true ∙ ap (shown_entry x) (sym c.entry_at-e.ensures);
       input = c.input-x.ensures x s q h;
     }) c.if-futile_at.true)
 

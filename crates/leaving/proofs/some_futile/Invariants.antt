@@ -1,8 +1,5 @@
-use Prim.Native.Nat.{◌≤◌, ◌-◌}
+use Prim.Native.Nat.{◌≤◌}
 use Rattle.leaving.proofs.some_futile.Given as goal
 
 abbrev pub invariant-loop-k : goal.invariant-loop-k
-invariant-loop-k l = l.k ≤ l.issued
-
-abbrev pub decreases-loop-k : goal.decreases-loop-k
-decreases-loop-k l = l.issued - l.k
+invariant-loop-k l = l.k ≤ l.m.issued

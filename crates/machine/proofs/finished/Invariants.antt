@@ -1,5 +1,4 @@
 use mathlib.Core.Path.{◌≡◌}
-use Prim.Native.Nat.{◌≤◌, ◌-◌}
 use Rattle.words.specs.Small.{all as every, counting}
 use Rattle.cases.specs.declared.Case.{Case}
 use Rattle.rules.specs.State.{State}
@@ -9,7 +8,4 @@ use Rattle.machine.proofs.Answers.{ended}
 use Rattle.machine.proofs.finished.Given as goal
 
 abbrev pub invariant-loop-p : goal.invariant-loop-p
-invariant-loop-p l = (l.p ≤ l.top) × ((c : Case) (s : State) → Ending c s l.counts l.places l.procs → Kept c s l.sets → l.all ≡ every (ended c s) (counting 0 l.p))
-
-abbrev pub decreases-loop-p : goal.decreases-loop-p
-decreases-loop-p l = l.top - l.p
+invariant-loop-p l = (c : Case) (s : State) → Ending c s l.case.counts l.m.places l.case.procs → Kept c s l.m.sets → l.all ≡ every (ended c s) (counting 0 l.p)

@@ -1,10 +1,13 @@
-use mathlib.Core.Path.{◌∙◌, ap}
-use Prim.Native.Nat.{ℕ, ◌%◌}
-use Rattle.words.specs.Sets.{has}
-use Rattle.machine.proofs.Entries.{preset_at}
+use mathlib.Core.Path.{◌∙◌, sym}
+use Rattle.machine.proofs.Entries.{preset_some, preset_none}
 use Rattle.machine.proofs.preset_of.Goals as goal
 
-pub returns : goal.returns
-returns c =
+pub returns-then-has : goal.returns-then-has
+returns-then-has c =
     let a = c.args in
-    λ k q. preset_at k a.masks.now a.presets.now a.n c.has-known.result q (c.has-known.ensures ∙ ap (λ (mask : ℕ). has mask (a.n % 8)) c.wide-mask.ensures.0)
+    λ k q. preset_some k a.case.now.masks a.case.now.presets a.n q (sym c.has.ensures ∙ c.if-has.true)
+
+pub returns-else-has : goal.returns-else-has
+returns-else-has c =
+    let a = c.args in
+    λ k q. preset_none k a.case.now.masks a.case.now.presets a.n q (sym c.has.ensures ∙ c.if-has.false)

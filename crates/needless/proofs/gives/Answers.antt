@@ -7,4 +7,4 @@ use Rattle.needless.proofs.gives.Goals as goal
 pub returns : goal.returns
 returns c =
     let a = c.args in
-    λ x s q h. ap (λ (x : ℕ). eqb a.v x) (c.or_zero.ensures ∙ ap or_zero (c.item_value-w.ensures x s q h))
+    λ x s q h. ap (λ (x : ℕ). eqb a.v x) (c.or_zero.ensures ∙ ap or_zero (c.item_value.ensures x s q h))

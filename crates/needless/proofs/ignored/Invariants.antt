@@ -8,7 +8,4 @@ use mathlib.Core.Path.{◌≡◌}
 use Rattle.needless.proofs.ignored.Given as goal
 
 abbrev pub invariant-loop-k : goal.invariant-loop-k
-invariant-loop-k l = (l.k ≤ l.issued) × ((c : Case) (s : State) → Acts c l.issued l.acts s → s.names ≡ names_of c l.names → Ignored s (has l.inner))
-
-abbrev pub decreases-loop-k : goal.decreases-loop-k
-decreases-loop-k l = l.k
+invariant-loop-k l = (l.k ≤ l.m.issued) × ((c : Case) (s : State) → Acts c l.m.issued l.m.acts s → s.names ≡ names_of c l.m.names → Ignored s (has l.inner))

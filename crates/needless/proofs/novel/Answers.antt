@@ -9,7 +9,7 @@ use Rattle.needless.proofs.novel.Goals as goal
 pub returns : goal.returns
 returns c =
     let a = c.args in
-    let v = c.or_zero in
-    let u = c.item_value-w in
-    λ x s m h t. ap not (c.some_gives-echoed.ensures x s m h ∙ ap (λ (n : ℕ). some_below 64 (gives_in x s a.word a.done n)) (v.ensures ∙ ap or_zero (u.ensures x s m h)))
+    let v = c.or_zero-v in
+    let u = c.item_value in
+    λ x s m h t. ap not (c.some_gives.ensures x s m h ∙ ap (λ (n : ℕ). some_below 64 (gives_in x s a.word a.done n)) (v.ensures ∙ ap or_zero (u.ensures x s m h)))
     ∙ ap (λ (b : Bool). b && not (some_below 64 (gives_in x s a.word a.done (or_zero (item_value x s a.e))))) (sym t)

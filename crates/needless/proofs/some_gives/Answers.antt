@@ -1,8 +1,9 @@
-use mathlib.Core.Path.{◌≡◌, refl, ◌∙◌}
+use mathlib.Core.Path.{◌≡◌, refl, ap, ◌∙◌}
+use mathlib.Core.Bool.{Bool, ◌||◌}
 use Prim.Native.Nat.{◌<◌}
 use native.Mathlib.Omega.{arith}
-use Rattle.orders.proofs.Walks.{found_more, found_all}
-use Rattle.needless.proofs.Echoing.{takes, gives_all}
+use Rattle.orders.proofs.Walks.{in_some, found_more, found_all}
+use Rattle.needless.proofs.Echoing.{takes, gives_all, or_turn}
 use Rattle.needless.proofs.some_gives.Goals as goal
 
 pub loop-rest-init : goal.loop-rest-init
@@ -13,7 +14,7 @@ loop-rest-preserved c =
     let a = c.args in
     let p : 0 < c.loop-rest.rest = omega arith in
     let e = c.lowest in
-    λ x s m h. found_more c.loop-rest.rest e.result c.others-rest.result e.ensures p (c.others-rest.ensures.1 e.result e.ensures) (takes x s a.v) c.gives-g.result c.loop-rest.found _ (c.gives-g.ensures x s m h) (c.loop-rest.invariant x s m h)
+    λ x s m h. ap (λ (b : Bool). b || in_some c.others-rest.result (takes x s a.v)) (or_turn c.loop-rest.found c.gives-found.result) ∙ found_more c.loop-rest.rest e.result c.others-rest.result e.ensures p (c.others-rest.ensures.1 e.result e.ensures) (takes x s a.v) c.gives-found.result c.loop-rest.found _ (c.gives-found.ensures x s m h) (c.loop-rest.invariant x s m h)
 
 pub returns : goal.returns
 returns c =

@@ -7,7 +7,7 @@ returns-then-w-ge48 c = let a = c.args in λ x s m h. all_left x s a.spent.now a
 pub returns-then-tried-word : goal.returns-then-tried-word
 returns-then-tried-word c = let a = c.args in λ x s m h. all_left x s a.spent.now a.w a.word
 
-pub returns : goal.returns
-returns c =
+pub returns-else-tried-word : goal.returns-else-tried-word
+returns-else-tried-word c =
     let a = c.args in
     λ x s m h. some_left x s a.spent.now a.w a.word c.if-w-ge48.false c.novel_items.result (c.novel_items.ensures x s m h)

@@ -10,7 +10,7 @@ use mathlib.Core.Path.{◌≡◌}
 use Rattle.openings.proofs.commits.Given as goal
 
 abbrev pub invariant-loop-k : goal.invariant-loop-k
-invariant-loop-k l = (l.k ≤ l.issued) × (l.k < l.issued → has l.others l.k ≡ true) × ((c : Case) (s : State) → ArraysIn c s l.masks l.presets l.procs l.locs l.issued l.acts l.rows l.sets l.holders → SetOf l.k (opens c s 48) l.items)
+invariant-loop-k l = (l.k ≤ l.m.issued) × (l.k < l.m.issued → has l.others l.k ≡ true) × ((c : Case) (s : State) → ArraysIn c s l.case.masks l.case.presets l.case.procs l.case.locs l.m.issued l.m.acts l.m.rows l.m.sets l.m.holders → SetOf l.k (opens c s 48) l.items)
 
 abbrev pub decreases-loop-k : goal.decreases-loop-k
-decreases-loop-k l = l.issued - l.k
+decreases-loop-k l = l.m.issued - l.k

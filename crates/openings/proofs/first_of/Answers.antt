@@ -10,7 +10,7 @@ returns-then-end-r c =
     let u = c.lowest in
     first_none c.args.word c.args.k c.args.end u.result c.requires.from c.requires.upto u.ensures c.if-end-r.true
 
-pub returns : goal.returns
-returns c =
+pub returns-else-end-r : goal.returns-else-end-r
+returns-else-end-r c =
     let u = c.lowest in
     first_some c.args.word c.args.k c.args.end u.result c.requires.from c.requires.upto u.ensures (omega (arith, c.if-end-r.false))

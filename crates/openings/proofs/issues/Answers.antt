@@ -12,7 +12,7 @@ loop-p-init c = (search rules, λ t s L h o g. no_set (opens t s 49))
 
 pub loop-p-preserved : goal.loop-p-preserved
 loop-p-preserved c =
-    (search rules, λ t s L h o g. c.with-items.ensures (opens t s 49) (c.loop-p.invariant.1 t s L h o g) (c.may_issue-test.ensures t s L h o g))
+    (search rules, λ t s L h o g. c.with-items.ensures (opens t s 49) (c.loop-p.invariant.1 t s L h o g) (c.may_issue.ensures t s L h o g))
 
 pub returns : goal.returns
 returns c =

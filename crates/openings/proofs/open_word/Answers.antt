@@ -10,22 +10,22 @@ use Rattle.openings.proofs.open_word.Goals as goal
 
 pub sources-requires : goal.sources-requires
 sources-requires c =
-    record { few = c.requires.few; low = c.if-w-lt48.true; loc = loc_low c.entry_at-e.result (get_or c.args.acts.now c.args.w 0) c.entry_at-e.ensures }
+    record { few = c.requires.few; low = (omega (arith, c.if-w-ge48.false)); loc = loc_low c.entry_at.result (get_or c.args.m.now.acts c.args.w 0) c.entry_at.ensures }
 
-pub returns-then-w-issued : goal.returns-then-w-issued
-returns-then-w-issued c =
-    let i = c.entry_at-e in
+pub returns-then-w-m : goal.returns-then-w-m
+returns-then-w-m c =
+    let i = c.entry_at in
     let a = c.args in
     λ t s E e l.
-    let D = arrays_entries t s a.masks.now a.presets.now a.procs a.locs a.issued a.acts.now a.rows.now a.sets.now a.holders.now E in
-    c.sources.ensures t s (entry_in t s a.masks.now a.rows.now a.sets.now a.procs a.issued a.acts.now D c.requires.issued a.w c.if-w-issued.true i.result i.ensures) e
+    let D = arrays_entries t s a.case.now.masks a.case.now.presets a.case.now.procs a.case.now.locs a.m.now.issued a.m.now.acts a.m.now.rows a.m.now.sets a.m.now.holders E in
+    c.sources.ensures t s (entry_in t s a.case.now.masks a.m.now.rows a.m.now.sets a.case.now.procs a.m.now.issued a.m.now.acts D c.requires.issued a.w c.if-w-m.true i.result i.ensures) e
 
-pub returns-then-w-lt48 : goal.returns-then-w-lt48
-returns-then-w-lt48 c = let a = c.args in λ t s E e l. read_past t s a.w e c.if-w-lt48.true a.issued a.acts.now E.shows c.if-w-issued.false
+pub returns-else-w-m : goal.returns-else-w-m
+returns-else-w-m c = let a = c.args in λ t s E e l. read_past t s a.w e (omega (arith, c.if-w-ge48.false)) a.m.now.issued a.m.now.acts E.shows c.if-w-m.false
 
-pub returns : goal.returns
-returns c =
-    let q : 48 ≡ c.args.w = omega (arith, c.if-w-lt48.false, c.requires.low) in
+pub returns-then-w-ge48 : goal.returns-then-w-ge48
+returns-then-w-ge48 c =
+    let q : 48 ≡ c.args.w = omega (arith, c.if-w-ge48.true, c.requires.low) in
     λ t s E e l.
     lone-set t s c.commits.result (subst (λ (n : ℕ). SetOf n (opens t s 48) c.commits.result) (sym E.shows.count) (c.commits.ensures t s E)) e
     ∙ ap (λ (w : ℕ). opens t s w e) q

@@ -1,40 +1,22 @@
-use Rattle.openings.proofs.Opens.{ready_other, ready_absent, ready_held, ready_known}
+use Rattle.openings.proofs.Opens.{ready_held, ready_known}
+use Rattle.words.proofs.Bools.{or_none}
+use Rattle.rules.specs.Kinds.{kind}
+use borrow.Author.Tests.{leb-false}
+use mathlib.Core.Bool.{Bool, not, ◌||◌}
+use mathlib.Core.Path.{refl, sym, ap, ◌∙◌}
 use native.Mathlib.Omega.{arith}
 use Rattle.openings.proofs.read_ready.Goals as goal
 
-pub returns-then-q-e : goal.returns-then-q-e
-returns-then-q-e c =
-    let q = c.kind_of-q in
-    let a = c.args in
-    λ t s rows E. ready_other t s a.masks.now rows a.sets.now a.procs a.e a.k E q.result q.ensures.0 c.if-q-e.true
-
-pub returns-then-wide-p : goal.returns-then-wide-p
-returns-then-wide-p c =
-    let v = c.wide in
-    let w = c.wide-p in
-    let q = c.kind_of-q in
-    let a = c.args in
-    λ t s rows E. ready_absent t s a.masks.now rows a.sets.now a.procs a.e a.k E q.result q.ensures.0 (omega (arith, c.if-wide-p.true, v.ensures.0, w.ensures.0))
-
-pub held-requires : goal.held-requires
-held-requires c =
-    let v = c.wide in
-    record { proc = omega (arith, c.if-wide-p.false, v.ensures.0, c.requires.few); upto = omega (arith, c.requires.low); kind-low = omega arith; loc_low = c.requires.loc }
-
-pub returns-then-held : goal.returns-then-held
-returns-then-held c =
+pub returns-then-not-held : goal.returns-then-not-held
+returns-then-not-held c =
     let h = c.held in
-    let v = c.wide in
-    let w = c.wide-p in
-    let q = c.kind_of-q in
     let a = c.args in
-    λ t s rows E. ready_held t s a.masks.now rows a.sets.now a.procs a.e a.k E q.result q.ensures.0 c.if-q-e.false (omega (arith, c.if-wide-p.false, v.ensures.0, w.ensures.0)) w.result h.result w.ensures.0 (h.ensures t s E.kept (omega (arith, E.there))) c.if-held.true
+    let b = or_none _ _ c.if-is_read-e.false in
+    λ t s rows E. ready_known t s a.case.now.masks rows a.sets.now a.case.now.procs a.e a.k E (kind a.e.instr) refl (ap (λ (x : Bool). not x || a.e.done) (sym c.is_read.ensures) ∙ b.0) (leb-false a.case.now.procs a.e.proc b.1) a.e.proc h.result refl (h.ensures t s E.kept (omega (arith, E.there))) c.known.result c.if-not-held.true (c.known.ensures t s (record { kept = E.kept; ends = E.ends; presets = E.presets }))
 
-pub returns : goal.returns
-returns c =
+pub returns-else-not-held : goal.returns-else-not-held
+returns-else-not-held c =
     let h = c.held in
-    let v = c.wide in
-    let w = c.wide-p in
-    let q = c.kind_of-q in
     let a = c.args in
-    λ t s rows E. ready_known t s a.masks.now rows a.sets.now a.procs a.e a.k E q.result q.ensures.0 c.if-q-e.false (omega (arith, c.if-wide-p.false, v.ensures.0, w.ensures.0)) w.result h.result w.ensures.0 (h.ensures t s E.kept (omega (arith, E.there))) c.known.result c.if-held.false (c.known.ensures t s (record { kept = E.kept; ends = E.ends; presets = E.presets }))
+    let b = or_none _ _ c.if-is_read-e.false in
+    λ t s rows E. ap not c.if-not-held.false ∙ ready_held t s a.case.now.masks rows a.sets.now a.case.now.procs a.e a.k E (kind a.e.instr) refl (ap (λ (x : Bool). not x || a.e.done) (sym c.is_read.ensures) ∙ b.0) (leb-false a.case.now.procs a.e.proc b.1) a.e.proc h.result refl (h.ensures t s E.kept (omega (arith, E.there))) c.if-not-held.false

@@ -1,4 +1,5 @@
-use mathlib.Core.Path.{◌≡◌}
+use mathlib.Core.Path.{◌≡◌, subst}
+use Rattle.std.proofs.lemmas.Nat.{or_comm}
 use mathlib.Core.Bool.{◌&&◌}
 use mathlib.Core.List.{List}
 use Prim.Native.Nat.{ℕ, ◌<◌}
@@ -6,7 +7,7 @@ use native.Mathlib.Omega.{arith}
 use lib.Dec.{ltb}
 use Rattle.rules.specs.Order.{Order, up_to}
 use Rattle.orders.specs.Rows.{order_of}
-use Rattle.orders.proofs.Walks.{in_some, cover_none, cover_more, found_all, reaches_all}
+use Rattle.orders.proofs.Walks.{Covers, in_some, cover_none, cover_more, found_all, reaches_all}
 use Rattle.orders.proofs.reach.Goals as goal
 
 -- item a is w, or stands before it, in the order that the rows hold
@@ -21,7 +22,8 @@ loop-rest-preserved c =
     let a = c.args in
     let p : 0 < c.loop-rest.rest = omega arith in
     let e = c.lowest in
-    cover_more c.loop-rest.rest e.result c.others-rest.result e.ensures p (c.others-rest.ensures.1 e.result e.ensures) (near a.rows.now) a.items c.up_to-more.result c.loop-rest.mask c.up_to-more.ensures c.loop-rest.invariant
+    subst (λ (m : ℕ). Covers (near a.rows.now) a.items c.others-rest.result m) (or_comm c.up_to-mask.result c.loop-rest.mask)
+    (cover_more c.loop-rest.rest e.result c.others-rest.result e.ensures p (c.others-rest.ensures.1 e.result e.ensures) (near a.rows.now) a.items c.up_to-mask.result c.loop-rest.mask c.up_to-mask.ensures c.loop-rest.invariant)
 
 pub returns : goal.returns
 returns c =

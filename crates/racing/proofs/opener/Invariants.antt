@@ -1,5 +1,5 @@
 use mathlib.Core.Path.{◌≡◌}
-use Prim.Native.Nat.{◌≤◌, ◌-◌}
+use Prim.Native.Nat.{◌≤◌}
 use Rattle.cases.specs.declared.Case.{Case}
 use Rattle.rules.specs.State.{State}
 use Rattle.machine.specs.Shown.{orders_of, Acts}
@@ -8,7 +8,4 @@ use Rattle.racing.proofs.Testing.{Unopened}
 use Rattle.racing.proofs.opener.Given as goal
 
 abbrev pub invariant-loop-j : goal.invariant-loop-j
-invariant-loop-j l = (l.j ≤ l.issued) × ((c : Case) (s : State) → Acts c l.issued l.acts s → s.orders ≡ orders_of c s.actions l.rows → Entries c l.issued l.acts → Unopened s l.j)
-
-abbrev pub decreases-loop-j : goal.decreases-loop-j
-decreases-loop-j l = l.issued - l.j
+invariant-loop-j l = (l.j ≤ l.m.issued) × ((c : Case) (s : State) → Acts c l.m.issued l.m.acts s → s.orders ≡ orders_of c s.actions l.m.rows → Entries c l.m.issued l.m.acts → Unopened s l.j)

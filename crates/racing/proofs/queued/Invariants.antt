@@ -1,5 +1,6 @@
 use mathlib.Core.Path.{◌≡◌}
-use Prim.Native.Nat.{◌≤◌, ◌-◌}
+use mathlib.Core.Bool.{false}
+use Prim.Native.Nat.{◌≤◌}
 use Rattle.words.specs.Small.{some_below}
 use Rattle.cases.specs.declared.Case.{Case}
 use Rattle.rules.specs.State.{State}
@@ -8,7 +9,4 @@ use Rattle.racing.proofs.Answers.{waits}
 use Rattle.racing.proofs.queued.Given as goal
 
 abbrev pub invariant-loop-k : goal.invariant-loop-k
-invariant-loop-k l = (l.k ≤ l.issued) × ((c : Case) (s : State) → Acts c l.issued l.acts s → l.found ≡ some_below l.k (λ j. waits (s.actions j)))
-
-abbrev pub decreases-loop-k : goal.decreases-loop-k
-decreases-loop-k l = l.issued - l.k
+invariant-loop-k l = (l.k ≤ l.m.issued) × ((c : Case) (s : State) → Acts c l.m.issued l.m.acts s → false ≡ some_below l.k (λ j. waits (s.actions j)))

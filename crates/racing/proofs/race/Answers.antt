@@ -1,52 +1,48 @@
-use mathlib.Core.Path.{◌∙◌, refl, sym, subst}
-use Rattle.cases.proofs.Told.{read_position, read_as}
-use Rattle.machine.specs.Fit.{Fit}
+use mathlib.Core.Path.{◌≡◌, ◌∙◌, refl, sym, subst}
+use Prim.Native.Nat.{ℕ}
+use Rattle.races.specs.Test.{first_of_race, second_of_race}
 use Rattle.machine.specs.Shown.{shown}
-use Rattle.replaying.proofs.Answers.{code_is, own-none, case_fit, in_fours}
+use Rattle.replaying.proofs.Answers.{codes_are}
 use Rattle.racing.specs.Answer.{alone, IsRace}
 use Rattle.racing.proofs.Answers.{refused_as, stepped_as, waiting_as, raced_as}
 use Rattle.racing.proofs.race.Goals as goal
 
-pub returns-then-code-ne0 : goal.returns-then-code-ne0
-returns-then-code-ne0 c =
+pub returns-in-Err : goal.returns-in-Err
+returns-in-Err c =
     let a = c.args in
-    let q = code_is alone a.block.now a.schedule.now 0 _ c.read_case-read.result c.read_case-read.ensures c.refusal-code.ensures in
-    subst (IsRace a.block.now a.schedule.now) (sym c.refused.ensures) (refused_as a.block.now a.schedule.now c.refusal-code.result c.read_case-read.result.position q c.if-code-ne0.true (read_position a.block.now c.read_case-read.ensures))
-
-pub walk-w-requires : goal.walk-w-requires
-walk-w-requires c =
-    let a = c.args in
-    let z = sym c.if-code-ne0.false ∙ code_is alone a.block.now a.schedule.now 0 _ c.read_case-read.result c.read_case-read.ensures c.refusal-code.ensures in
-    record {
-      fit = subst Fit (sym (read_as a.block.now c.read_case-read.ensures (own-none alone a.block.now a.schedule.now 0 z))) (case_fit alone a.block.now a.schedule.now 0 z);
-      whole = in_fours alone a.block.now a.schedule.now 0 z;
-    }
+    let r = c.in-Err.r in
+    let e = c.in-Err.ensures.refused in
+    subst (IsRace a.block.now a.schedule.now) (sym (c.refused.ensures ∙ (λ j. record { code = r.code; first = 255; second = 255; steps = e.steps j; place = e.place j; position = r.position })))
+    (refused_as a.block.now a.schedule.now r.code r.position (e.code ∙ codes_are alone a.block.now a.schedule.now 0) e.some e.position)
 
 pub returns-then-w-ne0 : goal.returns-then-w-ne0
 returns-then-w-ne0 c =
     let a = c.args in
-    let z = sym c.if-code-ne0.false ∙ code_is alone a.block.now a.schedule.now 0 _ c.read_case-read.result c.read_case-read.ensures c.refusal-code.ensures in
-    let same = read_as a.block.now c.read_case-read.ensures (own-none alone a.block.now a.schedule.now 0 z) in
-    subst (IsRace a.block.now a.schedule.now) (sym c.refused-then-w-ne0.ensures) (stepped_as a.block.now a.schedule.now z c.read_case-read.result.case same c.walk-w.result c.walk-w.ensures c.if-w-ne0.true)
+    let t = c.in-Ok.field-0 in
+    let u = c.in-Ok.ensures.taken in
+    let z = sym u.accepted ∙ codes_are alone a.block.now a.schedule.now 0 in
+    subst (IsRace a.block.now a.schedule.now) (sym c.refused-then-w-ne0.ensures) (stepped_as a.block.now a.schedule.now z t.case u.case t.walked u.walk c.if-w-ne0.true)
 
 pub returns-then-queued : goal.returns-then-queued
 returns-then-queued c =
     let a = c.args in
-    let z = sym c.if-code-ne0.false ∙ code_is alone a.block.now a.schedule.now 0 _ c.read_case-read.result c.read_case-read.ensures c.refusal-code.ensures in
-    let same = read_as a.block.now c.read_case-read.ensures (own-none alone a.block.now a.schedule.now 0 z) in
-    let k = c.read_case-read.result.case in
-    let s = shown k c.walk-w.result.machine in
+    let t = c.in-Ok.field-0 in
+    let u = c.in-Ok.ensures.taken in
+    let z = sym u.accepted ∙ codes_are alone a.block.now a.schedule.now 0 in
+    let s = shown t.case t.walked.machine in
     subst (IsRace a.block.now a.schedule.now) (sym c.refused-then-queued.ensures)
-    (waiting_as a.block.now a.schedule.now z k same c.walk-w.result c.walk-w.ensures c.if-w-ne0.false (sym c.if-queued.true ∙ c.queued.ensures k s (record { count = refl; actions = refl })))
+    (waiting_as a.block.now a.schedule.now z t.case u.case t.walked u.walk c.if-w-ne0.false (sym c.if-queued.true ∙ c.queued.ensures t.case s (record { count = refl; actions = refl })))
 
-pub first-pair-requires : goal.first-pair-requires
-first-pair-requires c = c.walk-w.ensures.valid.issued
+pub first-requires : goal.first-requires
+first-requires c = c.in-Ok.ensures.taken.walk.valid.issued
 
-pub returns : goal.returns
-returns c =
+pub returns-else-queued : goal.returns-else-queued
+returns-else-queued c =
     let a = c.args in
-    let z = sym c.if-code-ne0.false ∙ code_is alone a.block.now a.schedule.now 0 _ c.read_case-read.result c.read_case-read.ensures c.refusal-code.ensures in
-    let same = read_as a.block.now c.read_case-read.ensures (own-none alone a.block.now a.schedule.now 0 z) in
-    let k = c.read_case-read.result.case in
-    let s = shown k c.walk-w.result.machine in
-    raced_as a.block.now a.schedule.now z k same c.walk-w.result c.walk-w.ensures c.if-w-ne0.false c.first-pair.result.first c.first-pair.result.second (sym c.if-queued.false ∙ c.queued.ensures k s (record { count = refl; actions = refl })) (c.first-pair.ensures k s (record { count = refl; actions = refl }) refl c.walk-w.ensures.valid.entries)
+    let t = c.in-Ok.field-0 in
+    let u = c.in-Ok.ensures.taken in
+    let z = sym u.accepted ∙ codes_are alone a.block.now a.schedule.now 0 in
+    let s = shown t.case t.walked.machine in
+    let pair = c.first.ensures t.case s (record { count = refl; actions = refl }) refl u.walk.valid.entries in
+    raced_as a.block.now a.schedule.now z t.case u.case t.walked u.walk c.if-w-ne0.false _ _ (sym c.if-queued.false ∙ c.queued.ensures t.case s (record { count = refl; actions = refl }))
+    (subst (λ (p : ℕ × ℕ). (p.0 ≡ first_of_race s) × (p.1 ≡ second_of_race s)) (sym c.unwrap_or-first.ensures) pair)

@@ -1,11 +1,11 @@
-use mathlib.Core.Path.{◌≡◌}
-use Prim.Native.Nat.{ℕ, ◌≤◌, ◌<◌, ◌-◌}
-use lib.ListN.{length, get_or}
+use Rattle.std.proofs.Common.{◌≡◌, length}
+use Rattle.runs.specs.Listing.{below}
+use Rattle.records.proofs.Order.{Bytes}
 use Rattle.records.proofs.below.Given as goal
 
--- The bytes passed are the same, eight at a time.
-abbrev pub invariant-loop-i : goal.invariant-loop-i
-invariant-loop-i l = (l.i ≤ length l.a) × ((k : ℕ) → k < l.i → get_or l.a k 0 ≡ get_or l.b k 0)
+-- What is left of both is ordered as they are.
+abbrev pub invariant-loop-x : goal.invariant-loop-x
+invariant-loop-x l = (length l.left ≡ length l.right) × (below l.left l.right ≡ below l.a l.b) × Bytes l.left × Bytes l.right
 
-abbrev pub decreases-loop-i : goal.decreases-loop-i
-decreases-loop-i l = length l.a - l.i
+abbrev pub decreases-loop-x : goal.decreases-loop-x
+decreases-loop-x l = length l.left

@@ -3,29 +3,15 @@ use Prim.Native.Nat.{ℕ, ◌+◌, ◌/◌, ◌-◌}
 use native.Mathlib.Omega.{arith}
 use mathlib.Core.List.{List}
 use Rattle.runs.specs.Listing.{below}
-use Rattle.records.proofs.Buffer.{record_part}
-use Rattle.records.proofs.Places.{between_all, between_up, between_down}
+use Rattle.records.proofs.Places.{between_up, between_down}
 use Rattle.records.proofs.find.Goals as goal
-
-pub returns-then-after_last : goal.returns-then-after_last
-returns-then-after_last c = c.after_last.ensures c.if-after_last.true
-
-pub loop-low-init : goal.loop-low-init
-loop-low-init c =
-    let args = c.args in
-    (omega arith, omega arith, between_all args.out.now args.n args.r.now)
 
 pub loop-low-preserved-then-below : goal.loop-low-preserved-then-below
 loop-low-preserved-then-below c =
     let mid = c.loop-low.low + (c.loop-low.high - c.loop-low.low) / 2 in
-    (omega arith, omega arith, between_up c.requires.held c.args.r.now c.loop-low.invariant.2 mid (omega arith) (sym (c.below.ensures ∙ ap (λ (x : List ℕ). below x c.args.r.now) (record_part c.args.out.now mid)) ∙ c.if-below.true))
+    (omega arith, omega arith, between_up c.requires.held c.args.r.now c.loop-low.invariant.2 mid (omega arith) (sym (c.below.ensures ∙ ap (λ (x : List ℕ). below x c.args.r.now) c.record.ensures.is) ∙ c.if-below.true))
 
 pub loop-low-preserved : goal.loop-low-preserved
 loop-low-preserved c =
     let mid = c.loop-low.low + (c.loop-low.high - c.loop-low.low) / 2 in
-    (omega arith, omega arith, between_down c.requires.held c.args.r.now c.loop-low.invariant.2 mid (sym (c.below.ensures ∙ ap (λ (x : List ℕ). below x c.args.r.now) (record_part c.args.out.now mid)) ∙ c.if-below.false))
-
-pub returns : goal.returns
-returns c =
-    let b = c.loop-low.invariant.2 in
-    record { within = omega arith; under = b.under; over = λ k l m. b.over k (omega arith) m }
+    (omega arith, omega arith, between_down c.requires.held c.args.r.now c.loop-low.invariant.2 mid (sym (c.below.ensures ∙ ap (λ (x : List ℕ). below x c.args.r.now) c.record.ensures.is) ∙ c.if-below.false))

@@ -1,5 +1,4 @@
 use Prim.Native.Nat.{◌≤◌, ◌-◌}
-use Rattle.runs.specs.Listing.{below}
 use Rattle.records.proofs.Places.{Between}
 use Rattle.records.proofs.find.Given as goal
 

@@ -13,8 +13,8 @@ pub returns-then-out-n : goal.returns-then-out-n
 returns-then-out-n c =
     inserted_full c.requires c.find-at.ensures (λ m. true≢false (sym (c.there.ensures.1 m) ∙ c.if-there.false)) c.if-out-n.true
 
-pub returns : goal.returns
-returns c =
+pub returns-else-out-n : goal.returns-else-out-n
+returns-else-out-n c =
     let shift = c.shift_in in
     let out = c.args.out.now in
     let r = c.args.r in

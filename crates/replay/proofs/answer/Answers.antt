@@ -10,5 +10,5 @@ returns-then-input-lt512 c =
     let input = c.args.input.now in
     rw (take_all 512 input (omega (arith, c.if-input-lt512.true)), drop_of_length-le input {i = 512} (omega (arith, c.if-input-lt512.true))) c.report.ensures
 
-pub returns : goal.returns
-returns c = rw (tail_lent 512 c.args.input.now) at c.report-2.ensures
+pub returns-else-input-lt512 : goal.returns-else-input-lt512
+returns-else-input-lt512 c = rw (tail_lent 512 c.args.input.now) at c.report-else-input-lt512.ensures

@@ -14,4 +14,4 @@ returns c =
     let a = replayed c.args.block.now c.args.schedule.now 104 in
     let at = (read_of c.args.block.now).position in
     let said : replay_line answer.result.code answer.result.steps answer.result.position ≡ replay_line a.code a.steps at = rw (answer.ensures.code, answer.ensures.steps, answer.ensures.position) in
-    printed_as said (laid_printed line.laid (omega (arith, line.position_len_bound, c.requires)))
+    printed_as said (laid_printed line.laid (omega (arith, line.short, c.requires)))

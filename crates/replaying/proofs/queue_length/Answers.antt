@@ -18,12 +18,12 @@ loop-k-preserved c =
     let a = c.args in (
       search rules,
       search rules,
-      λ k s h. many_next c.loop-k.k (λ j. waiting a.p (s.actions j)) c.one_if-more.result c.loop-k.n c.queued.result
-          (c.queued.ensures k ∙ ap (λ (e : Entry). waiting a.p (shown_entry k e)) c.entry_at-e.ensures ∙ ap (waiting a.p) (sym (action_at_lem k a.issued a.acts.now s h c.loop-k.k (omega arith)))) c.one_if-more.ensures.0 (c.loop-k.invariant.2 k s h),
+      λ k s h. many_next c.loop-k.k (λ j. waiting a.p (s.actions j)) c.from-n.result c.loop-k.n c.queued.result
+          (c.queued.ensures k ∙ ap (λ (e : Entry). waiting a.p (shown_entry k e)) c.entry_at.ensures ∙ ap (waiting a.p) (sym (action_at_lem k a.m.now.issued a.m.now.acts s h c.loop-k.k (omega arith)))) c.from-n.ensures (c.loop-k.invariant.2 k s h),
     )
 
 pub returns : goal.returns
 returns c =
     let a = c.args in
-    let q : c.loop-k.k ≡ a.issued = omega arith in
+    let q : c.loop-k.k ≡ a.m.now.issued = omega arith in
     λ k s h. subst (λ (x : ℕ). c.loop-k.n ≡ how_many x (λ j. waiting a.p (s.actions j))) (q ∙ sym h.count) (c.loop-k.invariant.2 k s h)

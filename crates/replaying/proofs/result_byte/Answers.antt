@@ -8,5 +8,5 @@ use Rattle.replaying.proofs.result_byte.Goals as goal
 pub returns-then-i-lt96 : goal.returns-then-i-lt96
 returns-then-i-lt96 c = let a = c.args in λ k s e h q r. ap (λ (l : List ℕ). get_or l a.i 0) r ∙ result-register k s a.i c.if-i-lt96.true
 
-pub returns : goal.returns
-returns c = let a = c.args in λ k s e h q r. c.tail_byte.ensures k s e h q ∙ result_tail k s a.i c.if-i-lt96.false
+pub returns-else-i-lt96 : goal.returns-else-i-lt96
+returns-else-i-lt96 c = let a = c.args in λ k s e h q r. c.tail_byte.ensures k s e h q ∙ result_tail k s a.i c.if-i-lt96.false

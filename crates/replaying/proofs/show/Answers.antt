@@ -17,12 +17,12 @@ loop-i-preserved c =
       search rules,
       length-set c.loop-i.res c.loop-i.i _ ∙ c.loop-i.invariant.1,
       λ k p r.
-          filled_more (λ j. get_or (result_bytes k (shown k a.m)) j 0) 0 c.loop-i.res c.loop-i.i c.result_byte-b.result (omega (arith, c.loop-i.invariant.1, c.loop-i-test.true)) (c.result_byte-b.ensures k (shown k a.m) p (record { count = refl; actions = refl }) (λ q. refl) r) (c.loop-i.invariant.2 k p r),
+          filled_more (λ j. get_or (result_bytes k (shown k a.m.now)) j 0) 0 c.loop-i.res c.loop-i.i c.result_byte.result (omega (arith, c.loop-i.invariant.1, c.loop-i-test.true)) (c.result_byte.ensures k (shown k a.m.now) p (record { count = refl; actions = refl }) (λ q. refl) r) (c.loop-i.invariant.2 k p r),
     )
 
 pub returns : goal.returns
 returns c =
     let a = c.args in
-    let s = shown a.c a.m in
-    let r = c.registers-registers.ensures a.c s refl (record { masks = refl; presets = refl }) (record { count = refl; actions = refl }) refl in
-    result_is a.c s c.loop-i.res c.loop-i.invariant.1 (λ j lt. c.loop-i.invariant.2 a.c refl r j (omega (arith, c.loop-i-test.false)))
+    let s = shown a.case.now a.m.now in
+    let r = c.registers-registers.ensures a.case.now s refl (record { masks = refl; presets = refl }) (record { count = refl; actions = refl }) refl in
+    result_is a.case.now s c.loop-i.res c.loop-i.invariant.1 (λ j lt. c.loop-i.invariant.2 a.case.now refl r j (omega (arith, c.loop-i-test.false)))

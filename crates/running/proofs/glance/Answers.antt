@@ -1,36 +1,43 @@
-use Rattle.rules.specs.Kinds.{kind, reading, writing, syncs}
-use mathlib.Core.Path.{◌≡◌, ◌∙◌, ap}
-use mathlib.Core.Bool.{not, ◌&&◌, ◌||◌}
-use Prim.Native.Nat.{ℕ, ◌%◌}
+use mathlib.Core.Path.{◌∙◌, ap, refl}
 use native.Mathlib.Omega.{arith}
-use lib.Dec.{eqb}
 use lib.ListN.{get_or}
-use borrow.Author.Tests.{leb-false}
+use Rattle.std.specs.Prelude.{is_some}
+use Rattle.cases.specs.Case.{instr_at}
+use Rattle.stores.specs.Log.{slot_by}
 use Rattle.words.specs.Small.{or_zero}
-use Rattle.cases.specs.Case.{instr_at, count_of}
-use Rattle.boards.proofs.Accepted.{can_run as can-run-cases}
-use Rattle.stores.specs.Log.{buffer_by}
-use Rattle.running.specs.Shown.{shown}
-use Rattle.running.specs.Steps.{first_by}
-use Rattle.running.proofs.Operands.{quiet_is, address_is}
+use Rattle.running.proofs.Operands.{looks, stays, place-low, address_is, quiet_look, quiet_write, quiet-other}
 use Rattle.running.proofs.glance.Goals as goal
 
-pub bounds-c-p : goal.bounds-c-p
-bounds-c-p c =
+pub bounds-case-p : goal.bounds-case-p
+bounds-case-p c =
     let a = c.args in
-    omega (arith, leb-false (count_of a.c a.p) (get_or a.s.places a.p 0) (can-run-cases a.k a.c (shown a.k a.c a.s) a.p c.requires.free).inside, c.requires.valid.fit.counts a.p, c.requires.proc, c.wide.ensures.0)
+    omega (arith, place-low a.k a.case.now a.s.now a.p c.requires, c.requires.valid.fit.counts a.p, c.requires.proc)
 
-pub returns : goal.returns
-returns c =
+pub returns-in-Read : goal.returns-in-Read
+returns-in-Read c =
     let a = c.args in
-    let place = get_or a.s.places a.p 0 in
-    let w : c.wide.result ≡ place = c.wide.ensures.0 in
-    let q = c.kind_of-q.ensures.0 ∙ ap (λ (n : ℕ). kind (instr_at a.c a.p n)) w in
-    let x = c.or_zero-x.ensures ∙ ap or_zero c.first.ensures ∙ ap (λ (n : ℕ). or_zero (first_by a.s.values a.p (instr_at a.c a.p n))) w in
-    let b = c.buffer_of-b.ensures ∙ ap (λ (n : ℕ). buffer_by a.k (n % 256)) x in
-    let fine = c.requires.valid.fit.fine a.p place c.requires.proc (leb-false (count_of a.c a.p) place (can-run-cases a.k a.c (shown a.k a.c a.s) a.p c.requires.free).inside) in
     record {
-      kind = q;
-      at = x ∙ address_is a.k a.c a.s a.p c.requires fine;
-      quiet = (λ j. not (reading (q j) || syncs (q j)) && not (writing (q j) && eqb (b j) 8)) ∙ quiet_is a.k a.c a.s a.p c.requires fine;
+      instr = refl;
+      at = c.or_zero-at.ensures ∙ ap or_zero c.first.ensures ∙ address_is a.k a.case.now a.s.now a.p c.requires;
+      quiet = quiet_look a.k a.case.now a.s.now a.p c.requires (looks c.in-Read.is);
+    }
+
+pub returns-in-Write : goal.returns-in-Write
+returns-in-Write c =
+    let a = c.args in
+    record {
+      instr = refl;
+      at = c.or_zero-at.ensures ∙ ap or_zero c.first.ensures ∙ address_is a.k a.case.now a.s.now a.p c.requires;
+      quiet = c.is_some-quiet.ensures ∙ (λ j. is_some ((c.buffer_of.ensures ∙ ap (slot_by a.k) (c.or_zero-at.ensures ∙ ap or_zero c.first.ensures)) j)) ∙ quiet_write a.k a.case.now a.s.now a.p c.requires (rw c.in-Write.is) (rw c.in-Write.is);
+    }
+
+pub returns-in_default : goal.returns-in_default
+returns-in_default c =
+    let a = c.args in
+    let d = c.in_default in
+    let still = stays (instr_at a.case.now a.p (get_or a.s.now.places a.p 0)) d.not-Read d.not-Write d.not-Acquire d.not-Release in
+    record {
+      instr = refl;
+      at = c.or_zero-at.ensures ∙ ap or_zero c.first.ensures ∙ address_is a.k a.case.now a.s.now a.p c.requires;
+      quiet = quiet-other a.k a.case.now a.s.now a.p c.requires still.0 still.1;
     }

@@ -4,6 +4,9 @@ use Rattle.running.proofs.start.Goals as goal
 
 pub returns : goal.returns
 returns c =
-    let a = c.args in
-    let e = c.presets-values.ensures in
-    record { shows = begun_shows a.k a.c c.presets-values.result c.requires e; valid = begun_valid a.k a.c c.presets-values.result c.requires e; logged = refl }
+    let values = c.presets.result in
+    λ k. record {
+      shows = begun_shows k c.args.case.now values c.requires c.presets.ensures;
+      valid = begun_valid k c.args.case.now values c.requires c.presets.ensures;
+      logged = refl;
+    }

@@ -2,7 +2,6 @@ use mathlib.Core.Path.{◌≡◌}
 use Prim.Native.Nat.{◌<◌, ◌-◌}
 use Rattle.clauses.specs.Wanted.{wanted}
 use Rattle.machine.specs.Shown.{shown}
-use Rattle.machine.specs.Lent.{machine_of}
 use Rattle.spending.specs.Words.{spent_by}
 use Rattle.searching.proofs.Loop.{Sweeping}
 use Rattle.searching.proofs.+explore.Given as goal
@@ -11,10 +10,10 @@ use Rattle.searching.proofs.+explore.Given as goal
 -- spent by now, the open positions passed are spent, and a sure step is the first to be looked at. Assumes nothing.
 abbrev pub invariant-loop-at : goal.invariant-loop-at
 invariant-loop-at l =
-    Sweeping l.c (wanted l.asked) (spent_by l.initial.now) (shown l.c (machine_of l.issued l.places l.names l.holders l.acts l.rows l.sets)) (l.n - 1) l.initial.out l.initial.sum l.initial.at l.to l.at l.now l.out l.sum × (l.j < 3200 → l.at ≡ l.initial.at)
+    Sweeping l.case (wanted l.asked) (spent_by l.initial.now) (shown l.case l.m) (l.n - 1) l.initial.out l.initial.sum l.initial.at l.sweep.to l.at l.now l.out l.sum × (l.j < 3200 → l.at ≡ l.initial.at)
 
 abbrev pub decreases-loop-at : goal.decreases-loop-at
-decreases-loop-at l = l.to - l.at
+decreases-loop-at l = l.sweep.to - l.at
 
 -- The number of steps to go falls.
 abbrev pub decreases-explore : goal.decreases-explore

@@ -16,5 +16,5 @@ returns-then-sources-ne0 c k lent memory valid seen =
 pub next_step-requires : goal.next_step-requires
 next_step-requires c = c.requires.scanning
 
-pub returns : goal.returns
-returns c k lent memory valid seen = record { sure = λ h. absurd (omega (arith, c.if-j-lt3200.false)); rest = λ _. c.next_step.ensures k lent memory valid }
+pub returns-else-sources-ne0 : goal.returns-else-sources-ne0
+returns-else-sources-ne0 c k lent memory valid seen = record { sure = λ h. absurd (omega (arith, c.if-j-lt3200.false)); rest = λ _. c.next_step.ensures k lent memory valid }

@@ -6,8 +6,8 @@ use Rattle.searching.proofs.positions.Goals as goal
 pub returns-then-is_spent : goal.returns-then-is_spent
 returns-then-is_spent c k s ends shows = record { sure = λ _. (refl, inl (refl, sym c.is_spent.ensures ∙ c.if-is_spent.true)); lone = λ _. refl; rest = λ h. absurd (omega (arith, c.if-j-lt3200.true)) }
 
-pub returns-then-j-lt3200 : goal.returns-then-j-lt3200
-returns-then-j-lt3200 c k s ends shows = record { sure = λ _. (refl, inr refl); lone = λ _. refl; rest = λ h. absurd (omega (arith, c.if-j-lt3200.true)) }
+pub returns-else-is_spent : goal.returns-else-is_spent
+returns-else-is_spent c k s ends shows = record { sure = λ _. (refl, inr refl); lone = λ _. refl; rest = λ h. absurd (omega (arith, c.if-j-lt3200.true)) }
 
 pub returns-then-k-lt48 : goal.returns-then-k-lt48
 returns-then-k-lt48 c k s ends shows =

@@ -24,7 +24,7 @@ loop-rest-preserved c =
     let a = c.args in
     let p : 0 < c.loop-rest.rest = omega arith in
     let e = c.lowest-e in
-    let late = c.before-late in
+    let late = c.before-in-loop-rest in
     sift_more c.loop-rest.rest e.result c.others-rest.result e.ensures p (c.others-rest.ensures.1 e.result e.ensures) a.items (early a.rows.now a.i) c.loop-rest.seen c.with_unless-seen.result (not late.result) (ap not late.ensures) c.with_unless-seen.ensures c.loop-rest.invariant
 
 pub returns : goal.returns

@@ -8,7 +8,7 @@ use Rattle.sights.proofs.with_unless.Goals as goal
 pub returns-then-test : goal.returns-then-test
 returns-then-test c = let s = c.args in λ a. with_none s.x s.e a s.test c.if-test.true
 
-pub returns : goal.returns
-returns c =
+pub returns-else-test : goal.returns-else-test
+returns-else-test c =
     let s = c.args in
     λ a. ap (λ (n : ℕ). has (bit_or n s.x) a) c.one.ensures ∙ with_one s.x s.e a s.test c.if-test.false

@@ -15,11 +15,11 @@ pub loop-k-preserved : goal.loop-k-preserved
 loop-k-preserved c =
     let a = c.args in (
       search rules,
-      λ x s q h. c.with-items.ensures (λ i. are_rivals s (shown_entry x a.e) (s.actions i)) (c.loop-k.invariant.1 x s q h) (c.rivals-test.ensures x s q h),
+      λ x s q h. c.with-items.ensures (λ i. are_rivals s (shown_entry x a.e) (s.actions i)) (c.loop-k.invariant.1 x s q h) (c.rivals.ensures x s q h),
     )
 
 pub returns : goal.returns
 returns c =
     let a = c.args in
-    let k : c.loop-k.k ≡ a.issued = omega arith in
+    let k : c.loop-k.k ≡ a.m.now.issued = omega arith in
     λ x s q h. subst (λ (n : ℕ). SetOf n (λ i. are_rivals s (shown_entry x a.e) (s.actions i)) c.loop-k.items) k (c.loop-k.invariant.1 x s q h)

@@ -7,28 +7,28 @@ use Rattle.machine.specs.Word.{entry_of}
 use Rattle.stepping.proofs.Places.{no_place, issue_place, commit_place}
 use Rattle.stepping.proofs.place_of.Goals as goal
 
-pub bounds-places-proc : goal.bounds-places-proc
-bounds-places-proc c = c.requires.issue (sym c.names.ensures ∙ c.if-names.true) c.if-kind-eq0.true
+pub bounds-m-proc : goal.bounds-m-proc
+bounds-m-proc c = c.requires.issue (sym c.names.ensures ∙ c.if-not-names.false) c.if-kind-eq0.true
 
 pub returns-then-kind-eq0 : goal.returns-then-kind-eq0
 returns-then-kind-eq0 c =
     let a = c.args in
-    let h = sym c.names.ensures ∙ c.if-names.true in
+    let h = sym c.names.ensures ∙ c.if-not-names.false in
     λ x m e v places acts is. ap (λ (l : List ℕ). get_or l a.proc 0) (sym places) ∙ issue_place x m v a.kind a.proc a.action e a.code is h c.if-kind-eq0.true
 
-pub entry_at-e-requires : goal.entry_at-e-requires
-entry_at-e-requires c = c.requires.commit (sym c.names.ensures ∙ c.if-names.true) c.if-kind-eq0.false
+pub entry_at-requires : goal.entry_at-requires
+entry_at-requires c = c.requires.commit (sym c.names.ensures ∙ c.if-not-names.false) c.if-kind-eq0.false
 
-pub returns-then-names : goal.returns-then-names
-returns-then-names c =
+pub returns-else-kind-eq0 : goal.returns-else-kind-eq0
+returns-else-kind-eq0 c =
     let a = c.args in
-    let h = sym c.names.ensures ∙ c.if-names.true in
+    let h = sym c.names.ensures ∙ c.if-not-names.false in
     λ x m e v places acts is.
-    ap (λ (i : Entry). i.place) c.entry_at-e.ensures
+    ap (λ (i : Entry). i.place) c.entry_at.ensures
     ∙ ap (λ (l : List ℕ). (entry_of (get_or l a.action 0)).place) (sym acts)
     ∙ commit_place x m v a.kind a.proc a.action e a.code is h c.if-kind-eq0.false
 
-pub returns : goal.returns
-returns c =
+pub returns-then-not-names : goal.returns-then-not-names
+returns-then-not-names c =
     let a = c.args in
-    λ x m e v places acts is. no_place x m v a.kind a.proc a.action e a.code is (sym c.names.ensures ∙ c.if-names.false)
+    λ x m e v places acts is. no_place x m v a.kind a.proc a.action e a.code is (sym c.names.ensures ∙ c.if-not-names.true)

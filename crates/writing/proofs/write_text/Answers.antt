@@ -1,4 +1,4 @@
-use mathlib.Core.Path.{refl, ap}
+use mathlib.Core.Path.{refl, ap, ◌∙◌}
 use native.Mathlib.Omega.{arith}
 use lib.ListN.{length, length-replicate}
 use Prim.Native.Nat.{ℕ}
@@ -17,7 +17,7 @@ sized s = record { counts = search (long_of, rules); masks = search (long_of, ru
 pub returns-then-fault-ne0 : goal.returns-then-fault-ne0
 returns-then-fault-ne0 c =
     let fault = c.fault-fault in
-    write_faulty c.args.case (length c.args.out.now) fault.result fault.ensures _ c.if-fault-ne0.true c.clear.ensures
+    write_faulty c.args.case (length c.args.out.now) fault.result fault.ensures _ c.if-fault-ne0.true (c.fill.ensures.after (λ y e. e))
 
 pub lay-n-requires : goal.lay-n-requires
 lay-n-requires c =
@@ -27,21 +27,20 @@ lay-n-requires c =
 pub returns-then-n-out : goal.returns-then-n-out
 returns-then-n-out c =
     let lay = c.lay-n in
-    let clear = c.clear in
+    let zeros = c.fill.ensures.after (λ y e. e) in
     let fault = c.fault-fault in
     let size = length c.args.out.now in
-    write_short c.args.case size fault.result fault.ensures c.if-fault-ne0.false _ _ lay.result refl (lay.ensures.laid, lay.ensures.case_len_bound) _ (omega (arith, c.if-n-out.true, ap length clear.ensures, length-replicate {A = ℕ} size 0)) clear.ensures
+    write_short c.args.case size fault.result fault.ensures c.if-fault-ne0.false _ _ lay.result refl (record { laid = lay.ensures.laid; short = lay.ensures.short }) _ (omega (arith, c.if-n-out.true, ap length zeros, length-replicate {A = ℕ} size 0)) zeros
 
-pub slice_bounds-word-end : goal.slice_bounds-word-end
-slice_bounds-word-end c =
+pub slice_bounds-copy_from_slice-end-3 : goal.slice_bounds-copy_from_slice-end-3
+slice_bounds-copy_from_slice-end-3 c =
     let lay = c.lay-n in
-    printed_count (laid_printed lay.ensures.laid (omega (arith, lay.ensures.case_len_bound)))
+    printed_count (laid_printed lay.ensures.laid (omega (arith, lay.ensures.short)))
 
 pub returns : goal.returns
 returns c =
-    let last = c.word in
     let lay = c.lay-n in
-    let clear = c.clear in
     let fault = c.fault-fault in
     let size = length c.args.out.now in
-    write_whole c.args.case size fault.result fault.ensures c.if-fault-ne0.false _ _ lay.result refl (lay.ensures.laid, lay.ensures.case_len_bound) _ _ _ _ (omega (arith, c.if-n-out.false, ap length clear.ensures, length-replicate {A = ℕ} size 0)) clear.ensures (printed_text (laid_printed lay.ensures.laid (omega (arith, lay.ensures.case_len_bound)))) last.ensures
+    let said = c.copy_from_slice.ensures.after ∙ printed_text (laid_printed lay.ensures.laid (omega (arith, lay.ensures.short))) in
+    write_whole c.args.case size fault.result fault.ensures c.if-fault-ne0.false _ _ lay.result refl (record { laid = lay.ensures.laid; short = lay.ensures.short }) _ _ _ (omega (arith, c.if-n-out.false, c.fill.ensures.len)) (c.fill.ensures.after (λ y e. e)) said refl

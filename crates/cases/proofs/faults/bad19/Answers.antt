@@ -13,14 +13,14 @@ tests s i w u r p₁ p₂ p₃ p₄ op h₁ h₂ h₃ h₄ ho hw hu hr =
     let er = hr ∙ ap (λ (o : ℕ). reads_at o i) (ho ∙ ap (byte s) (h₃ ∙ ap (λ (n : ℕ). i - n % 6) h₂)) in
     λ t. hw t && eu t && er t
 
-pub returns-then-within-used : goal.returns-then-within-used
-returns-then-within-used c =
+pub returns-then-reads : goal.returns-then-reads
+returns-then-reads c =
     let a = c.args in
-    let tested = tests a.block.now a.i c.within.result c.used.result c.reads_at.result c.past-p.result c.past.result c.past-2.result c.past-3.result c.number-op.result c.past-p.ensures c.past.ensures c.past-2.ensures c.past-3.ensures c.number-op.ensures.is c.within.ensures c.used.ensures c.reads_at.ensures in
-    ap not (c.is_set.ensures ∙ (λ t. is_set a.block.now (c.past-p.ensures t / 72) (c.number.ensures.is t))) ∙ read_unset a.block.now a.i (sym tested ∙ c.if-within-used.true)
+    let tested = tests a.block.now a.i c.within.result c.used.result c.reads_at.result c.saturating_sub-p.result c.saturating_sub.result c.saturating_sub-2.result c.saturating_sub-3.result c.number-op.result c.saturating_sub-p.ensures c.saturating_sub.ensures c.saturating_sub-2.ensures c.saturating_sub-3.ensures c.number-op.ensures.is c.within.ensures c.used.ensures c.reads_at.ensures in
+    ap not (c.is_set.ensures ∙ (λ t. is_set a.block.now (c.saturating_sub-p.ensures t / 72) (c.number.ensures.is t))) ∙ read_unset a.block.now a.i (sym tested ∙ c.if-reads.true)
 
-pub returns : goal.returns
-returns c =
+pub returns-else-reads : goal.returns-else-reads
+returns-else-reads c =
     let a = c.args in
-    let tested = tests a.block.now a.i c.within.result c.used.result c.reads_at.result c.past-p.result c.past.result c.past-2.result c.past-3.result c.number-op.result c.past-p.ensures c.past.ensures c.past-2.ensures c.past-3.ensures c.number-op.ensures.is c.within.ensures c.used.ensures c.reads_at.ensures in
-    not-reading a.block.now a.i (sym tested ∙ c.if-within-used.false)
+    let tested = tests a.block.now a.i c.within.result c.used.result c.reads_at.result c.saturating_sub-p.result c.saturating_sub.result c.saturating_sub-2.result c.saturating_sub-3.result c.number-op.result c.saturating_sub-p.ensures c.saturating_sub.ensures c.saturating_sub-2.ensures c.saturating_sub-3.ensures c.number-op.ensures.is c.within.ensures c.used.ensures c.reads_at.ensures in
+    c.if-reads.false ∙ not-reading a.block.now a.i (sym tested ∙ c.if-reads.false)

@@ -4,4 +4,4 @@ use Rattle.cases.proofs.faults.bad4.Goals as goal
 pub returns : goal.returns
 unfolding bad4
 returns c =
-    rw (c.marked.ensures, c.no_proc.ensures, c.past.ensures, c.number.ensures.is, c.within.ensures)
+    rw (c.marked.ensures, c.no_proc.ensures, c.saturating_sub.ensures, c.number.ensures.is, c.within.ensures)

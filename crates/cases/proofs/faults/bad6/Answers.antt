@@ -4,4 +4,4 @@ use Rattle.cases.proofs.faults.bad6.Goals as goal
 pub returns : goal.returns
 unfolding bad6
 returns c =
-    rw (c.bad_byte.ensures, c.number.ensures.is, c.used.ensures, c.past-3.ensures, c.within.ensures, c.number-op.ensures.is, c.past-2.ensures, c.past.ensures, c.past-p.ensures)
+    rw (c.bad_byte.ensures, c.number.ensures.is, c.used.ensures, c.saturating_sub-3.ensures, c.within.ensures, c.number-op.ensures.is, c.saturating_sub-2.ensures, c.saturating_sub.ensures, c.saturating_sub-p.ensures)

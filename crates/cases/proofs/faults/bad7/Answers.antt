@@ -4,4 +4,4 @@ use Rattle.cases.proofs.faults.bad7.Goals as goal
 pub returns : goal.returns
 unfolding bad7
 returns c =
-    rw (c.marked.ensures, c.within-2.ensures, c.within.ensures, c.used-used.ensures, c.past-2.ensures, c.past.ensures)
+    rw (c.marked.ensures, c.within-2.ensures, c.within.ensures, c.used-used.ensures, c.saturating_sub-2.ensures, c.saturating_sub.ensures)

@@ -1,28 +1,27 @@
-use Prim.Native.Nat.{◌≤◌}
-use native.Mathlib.Numerals.{add-one}
+use Rattle.std.proofs.Common.{◌≡◌, rules, ◌<◌, subst}
 use native.Mathlib.Omega.{arith}
+use lib.ListN.{get_or}
 use Rattle.cases.specs.Block.{lowest, bad}
-use Rattle.cases.proofs.Lowest.{passed_start, passed_more, judge_found, judge_19, judge-none}
-use borrow.Author.Rules.{rules}
+use Rattle.cases.proofs.Lowest.{Passed, codes, passed_more, judge_found, judge-none}
 use Rattle.cases.proofs.faults.judge.Goals as goal
-
-pub loop-code-init : goal.loop-code-init
-loop-code-init c = (search rules, search rules, passed_start c.args.block.now)
-
-pub returns-then-position-lt510 : goal.returns-then-position-lt510
-returns-then-position-lt510 c =
-    judge_found c.args.block.now c.loop-code.code c.lowest-position.result c.loop-code.invariant.0 (omega arith) c.loop-code.invariant.2 c.lowest-position.ensures c.if-position-lt510.true
 
 pub loop-code-preserved : goal.loop-code-preserved
 loop-code-preserved c =
     let s = c.args.block.now in
-    let h : 510 ≤ lowest 510 (bad s c.loop-code.code) = omega (arith, c.lowest-position.ensures) in
-    (search rules, search rules, rw (add-one c.loop-code.code) (passed_more s c.loop-code.code c.loop-code.invariant.2 h))
+    let n = c.loop-code.code-index in
+    let e : 510 ≡ lowest 510 (bad s (get_or codes n 0)) = search rules in
+    passed_more s n c.loop-code.invariant (omega arith)
 
-pub returns-then-position-lt510-2 : goal.returns-then-position-lt510-2
-returns-then-position-lt510-2 c =
-    judge_19 c.args.block.now c.loop-code.code c.loop-code-test.false c.loop-code.invariant.1 c.loop-code.invariant.2 c.lowest-position-2.result c.lowest-position-2.ensures c.if-position-lt510-2.true
+pub returns-in-Some : goal.returns-in-Some
+returns-in-Some c =
+    let s = c.args.block.now in
+    let n = c.loop-code.code-index in
+    let position = c.in-Some.position in
+    let e : position ≡ lowest 510 (bad s (get_or codes n 0)) = search rules in
+    let h : position < 510 = search rules in
+    judge_found s n position c.loop-code-test.true c.loop-code.invariant e h
 
 pub returns : goal.returns
 returns c =
-    judge-none c.args.block.now c.loop-code.code c.loop-code-test.false c.loop-code.invariant.1 c.loop-code.invariant.2 c.lowest-position-2.result c.lowest-position-2.ensures c.if-position-lt510-2.false
+    let e : c.loop-code.code-index ≡ 6 = omega arith in
+    judge-none c.args.block.now (subst (Passed c.args.block.now) e c.loop-code.invariant)

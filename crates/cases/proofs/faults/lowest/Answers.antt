@@ -16,7 +16,7 @@ loop-i-init c =
 pub returns-then-bad : goal.returns-then-bad
 returns-then-bad c =
     let a = c.args in
-    lowest_is 510 (bad a.block.now a.code) c.loop-i.i c.loop-i.invariant.0 c.loop-i.invariant.1 (λ h. sym c.bad.ensures ∙ c.if-bad.true)
+    (lowest_is 510 (bad a.block.now a.code) c.loop-i.i c.loop-i.invariant.0 c.loop-i.invariant.1 (λ h. sym c.bad.ensures ∙ c.if-bad.true), omega (arith, c.end_of-end.ensures.within))
 
 pub loop-i-preserved : goal.loop-i-preserved
 loop-i-preserved c =
@@ -26,4 +26,4 @@ loop-i-preserved c =
 pub returns : goal.returns
 returns c =
     let a = c.args in
-    none-lowest 510 (bad a.block.now a.code) (λ k h. elim (dec_lt k c.loop-i.i) [ yes b ↦ c.loop-i.invariant.1 k b | no g ↦ c.end_of-end.ensures.none-behind a.block.now k (omega arith) h ])
+    (none-lowest 510 (bad a.block.now a.code) (λ k h. elim (dec_lt k c.loop-i.i) [ yes b ↦ c.loop-i.invariant.1 k b | no g ↦ c.end_of-end.ensures.none-behind a.block.now k (omega arith) h ]), tt)

@@ -2,7 +2,6 @@ use mathlib.Core.Path.{◌≡◌}
 use mathlib.Core.Bool.{false}
 use Prim.Native.Nat.{ℕ, ◌≤◌, ◌<◌, ◌-◌}
 use Rattle.cases.specs.Block.{bad}
-use Rattle.cases.proofs.Skipping.{passed}
 use Rattle.cases.proofs.faults.lowest.Given as goal
 
 -- No position passed so far is bad, and none outside those that the code speaks of; the measure is the number of positions that are left.

@@ -1,4 +1,3 @@
-use Prim.Native.Nat.{◌-◌}
 use Rattle.cases.specs.Block.{marked}
 use Rattle.cases.specs.Given.{Skipped}
 use Rattle.cases.proofs.faults.next_marked.Given as goal
@@ -6,6 +5,3 @@ use Rattle.cases.proofs.faults.next_marked.Given as goal
 -- The bytes passed so far are zero.
 abbrev pub invariant-loop-i : goal.invariant-loop-i
 invariant-loop-i l = Skipped (marked l.block) l.from l.i
-
-abbrev pub decreases-loop-i : goal.decreases-loop-i
-decreases-loop-i l = l.end - l.i

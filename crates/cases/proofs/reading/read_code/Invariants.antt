@@ -1,5 +1,5 @@
 use mathlib.Core.Path.{◌≡◌}
-use Prim.Native.Nat.{ℕ, ◌-◌, ◌≤◌, ◌<◌}
+use Prim.Native.Nat.{ℕ, ◌<◌}
 use lib.ListN.{length, get_or}
 use Rattle.cases.specs.Block.{slot_at}
 use Rattle.cases.specs.declared.Instr.TheVariants.{Empty}
@@ -7,7 +7,4 @@ use Rattle.cases.proofs.reading.read_code.Given as goal
 
 -- The slots passed are those of the block.
 abbrev pub invariant-loop-n : goal.invariant-loop-n
-invariant-loop-n l = (l.n ≤ 48) × (length l.code ≡ 48) × ((k : ℕ) → k < l.n → get_or l.code k (record { instr = Empty }) ≡ slot_at l.block k)
-
-abbrev pub decreases-loop-n : goal.decreases-loop-n
-decreases-loop-n l = 48 - l.n
+invariant-loop-n l = (length l.code ≡ 48) × ((k : ℕ) → k < l.n → get_or l.code k (record { instr = Empty }) ≡ slot_at l.block k)

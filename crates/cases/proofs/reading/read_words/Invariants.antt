@@ -1,12 +1,9 @@
 use mathlib.Core.Path.{◌≡◌}
-use Prim.Native.Nat.{ℕ, ◌+◌, ◌*◌, ◌-◌, ◌≤◌, ◌<◌}
+use Prim.Native.Nat.{ℕ, ◌+◌, ◌*◌, ◌<◌}
 use lib.ListN.{length, get_or}
 use Rattle.cases.specs.Block.{word}
 use Rattle.cases.proofs.reading.read_words.Given as goal
 
 -- The words passed are those of the block.
 abbrev pub invariant-loop-n : goal.invariant-loop-n
-invariant-loop-n l = (l.n ≤ length l.words) × (length l.words ≡ length l.initial.words) × ((k : ℕ) → k < l.n → get_or l.words k 0 ≡ word l.block (l.at + 2 * k))
-
-abbrev pub decreases-loop-n : goal.decreases-loop-n
-decreases-loop-n l = length l.words - l.n
+invariant-loop-n g l = (length l.words ≡ g.row.N) × ((k : ℕ) → k < l.n → get_or l.words k 0 ≡ word l.block (l.at + 2 * k))

@@ -6,4 +6,4 @@ use Rattle.drafting.proofs.state.nothing.Goals as goal
 
 pub returns : goal.returns
 unfolding read_of first_code_of
-returns c = ap (λ (r : CaseRead). r.case) c.read_case-none.ensures
+returns c = ap (λ (r : CaseRead). r.case) c.read_case.ensures

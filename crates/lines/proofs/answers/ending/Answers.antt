@@ -16,10 +16,10 @@ returns-then-of_block c =
       short = ending_short c.args.code c.args.position (omega (arith, c.ranges.position));
     }
 
-pub returns : goal.returns
+pub returns-else-of_block : goal.returns-else-of_block
 unfolding ending
-returns c =
+returns-else-of_block c =
     record {
-      laid = laid_as (sym (cond-false (of_block c.args.code) _ _ (sym c.of_block.ensures ∙ c.if-of_block.false))) c.word-2.ensures;
+      laid = laid_as (sym (cond-false (of_block c.args.code) _ _ (sym c.of_block.ensures ∙ c.if-of_block.false))) c.word-else-of_block.ensures;
       short = ending_short c.args.code c.args.position (omega (arith, c.ranges.position));
     }

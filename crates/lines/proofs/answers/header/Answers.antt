@@ -13,11 +13,11 @@ returns-then-cut c =
       short = header_short args.count args.cut (omega arith);
     }
 
-pub returns : goal.returns
+pub returns-else-cut : goal.returns-else-cut
 unfolding header_line
-returns c =
+returns-else-cut c =
     let args = c.args in
     record {
-      laid = rw c.if-cut.false (laid_then c.word-behind_word.ensures (laid_then c.decimal-behind_count.ensures c.word-2.ensures));
+      laid = rw c.if-cut.false (laid_then c.word-behind_word.ensures (laid_then c.decimal-behind_count.ensures c.word-else-cut.ensures));
       short = header_short args.count args.cut (omega arith);
     }

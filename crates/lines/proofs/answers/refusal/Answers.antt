@@ -8,5 +8,5 @@ pub returns : goal.returns
 unfolding refusal_line
 returns c = record {
   laid = laid_then c.word-behind_word.ensures (laid_then c.decimal-behind_code.ensures c.ending.ensures.laid);
-  position_len_bound = refusal_short c.args.code c.args.position (omega (arith, c.ranges.code)) c.ending.ensures.short;
+  short = refusal_short c.args.code c.args.position (omega (arith, c.ranges.code)) c.ending.ensures.short;
 }

@@ -12,5 +12,5 @@ returns c = record {
       (laid_then
       c.decimal-behind_code.ensures
       (laid_then c.word-behind_after.ensures (laid_then c.decimal-behind_number.ensures (laid_then c.word-behind_steps.ensures c.ending.ensures.laid))));
-  position_len_bound = replay_short c.args.code c.args.steps c.args.position (omega (arith, c.ranges.code)) (omega (arith, c.ranges.steps)) c.ending.ensures.short;
+  short = replay_short c.args.code c.args.steps c.args.position (omega (arith, c.ranges.code)) (omega (arith, c.ranges.steps)) c.ending.ensures.short;
 }

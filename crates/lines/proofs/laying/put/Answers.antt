@@ -8,6 +8,6 @@ pub returns-then-at-text : goal.returns-then-at-text
 unfolding laid
 returns-then-at-text c = record { bytes = refl; ends = omega arith }
 
-pub returns : goal.returns
+pub returns-else-at-text : goal.returns-else-at-text
 unfolding laid
-returns c = record { bytes = sym (set_out c.args.text.now c.args.at c.args.b (omega arith)); ends = omega arith }
+returns-else-at-text c = record { bytes = sym (set_out c.args.text.now c.args.at c.args.b (omega arith)); ends = omega arith }

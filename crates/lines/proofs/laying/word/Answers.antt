@@ -1,25 +1,19 @@
-use mathlib.Core.Path.{◌≡◌, sym, ap, ◌∙◌}
+use mathlib.Core.Path.{◌≡◌, sym}
 use mathlib.Core.List.{[], ◌∷◌, ◌++◌}
-use Prim.Native.Nat.{ℕ, ◌+◌}
+use Prim.Native.Nat.{◌+◌}
 use native.Mathlib.Omega.{arith}
 use native.Mathlib.Numerals.{add-one}
-use lib.ListN.{length, take, get_or}
-use lib.Seq.{take-suc, take-length}
+use lib.ListN.{take, get_or}
+use lib.Seq.{take-suc}
 use Rattle.lines.proofs.Behind.{laid_then, laid_none, laid_as}
 use Rattle.lines.proofs.laying.word.Goals as goal
 
-pub loop-i-init : goal.loop-i-init
-loop-i-init c = (omega arith, laid_none _ _)
+pub loop-b-init : goal.loop-b-init
+loop-b-init c = laid_none _ _
 
-pub loop-i-preserved : goal.loop-i-preserved
-loop-i-preserved c =
+pub loop-b-preserved : goal.loop-b-preserved
+loop-b-preserved c =
     let bytes = c.args.bytes.now in
-    let i = c.loop-i.i in
+    let i = c.loop-b.b-index in
     let more : take (i + 1) bytes ≡ take i bytes ++ (get_or bytes i 0 ∷ []) = rw (add-one, take-suc bytes i 0 (omega arith)) in
-    (omega arith, laid_as (sym more) (laid_then c.loop-i.invariant.1 c.put-end.ensures))
-
-pub returns : goal.returns
-returns c =
-    let bytes = c.args.bytes.now in
-    let all : c.loop-i.i ≡ length bytes = omega arith in
-    laid_as (ap (λ (n : ℕ). take n bytes) all ∙ take-length bytes) c.loop-i.invariant.1
+    laid_as (sym more) (laid_then c.loop-b.invariant c.put-end.ensures)

@@ -21,5 +21,5 @@ returns c =
     let count : n ≡ length (records_in n records) = sym (records_length n records) in
     let said = ap (λ (k : ℕ). header_line k args.cut ++ text) count in record {
       laid = laid_as said (laid_then c.header-behind_header.ensures.laid c.outcome_lines.ensures.laid);
-      records_len_bound = omega (arith, ap length said, length-append (header_line n args.cut) text, c.header-behind_header.ensures.short, c.outcome_lines.ensures.short);
+      short = omega (arith, ap length said, length-append (header_line n args.cut) text, c.header-behind_header.ensures.short, c.outcome_lines.ensures.short);
     }

@@ -1,4 +1,3 @@
-use Prim.Native.Nat.{◌≤◌, ◌-◌}
 use Rattle.words.specs.Small.{counting, concat_map}
 use Rattle.lines.specs.Outcome.{processor}
 use Rattle.lines.proofs.Rows.{Rows}
@@ -6,7 +5,4 @@ use Rattle.lines.proofs.outcome.outcome_line.Given as goal
 
 -- The first p processors are laid. Assumes nothing.
 abbrev pub invariant-loop-p : goal.invariant-loop-p
-invariant-loop-p l = (l.p ≤ l.present) × Rows 53 l.initial.text l.at (concat_map (processor l.outcome) (counting 0 l.p)) l.text l.end l.p
-
-abbrev pub decreases-loop-p : goal.decreases-loop-p
-decreases-loop-p l = l.present - l.p
+invariant-loop-p l = Rows 53 l.initial.text l.at (concat_map (processor l.outcome) (counting 0 l.p)) l.text l.end l.p

@@ -1,19 +1,16 @@
-use mathlib.Core.Path.{◌≡◌, sym, ap, ◌∙◌}
+use mathlib.Core.Path.{sym, ap, ◌∙◌}
 use mathlib.Core.List.{List, ◌++◌}
-use Prim.Native.Nat.{ℕ, ◌+◌, ◌*◌, ◌/◌}
-use native.Mathlib.Omega.{arith}
-use lib.ListN.{length}
+use Prim.Native.Nat.{ℕ}
 use Rattle.words.specs.Small.{concat_map}
 use Rattle.records.specs.Buffer.{records_in}
 use Rattle.records.proofs.Buffer.{record_part}
 use Rattle.lines.specs.Outcome.{outcome_line}
-use Rattle.lines.proofs.Behind.{laid_as}
 use Rattle.lines.proofs.Rows.{rows_none, rows_more, recorded_more}
 use Rattle.lines.proofs.outcome.outcome_lines.Goals as goal
 
 pub loop-k-init : goal.loop-k-init
 unfolding records_in
-loop-k-init c = (omega arith, rows_none _ _ _)
+loop-k-init c = rows_none _ _ _
 
 pub loop-k-preserved : goal.loop-k-preserved
 loop-k-preserved c =
@@ -23,15 +20,4 @@ loop-k-preserved c =
     let k = c.loop-k.k in
     let more = c.outcome_line-end.ensures in
     let said = recorded_more line records k ∙ ap (λ (r : List ℕ). concat_map line (records_in k records) ++ line r) (sym (record_part records k)) in
-    (omega arith, rows_more c.loop-k.invariant.1 more.laid more.short said)
-
-pub returns : goal.returns
-returns c =
-    let args = c.args in
-    let records = args.records.now in
-    let all : c.loop-k.k ≡ length records / 96 = omega arith in
-    let said = ap (λ (n : ℕ). concat_map (outcome_line args.procs) (records_in n records)) all in
-    record {
-      laid = laid_as said c.loop-k.invariant.1.laid;
-      short = omega (arith, ap length said, c.loop-k.invariant.1.short, ap (λ (n : ℕ). (53 * args.procs + 1) * n) all);
-    }
+    rows_more c.loop-k.invariant more.laid more.short said

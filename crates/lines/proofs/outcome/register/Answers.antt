@@ -10,7 +10,7 @@ unfolding register
 returns-then-defined-eq0 c =
     laid_as (sym (cond-true _ _ _ (eq-eqb c.args.defined 0 c.if-defined-eq0.true))) c.put.ensures
 
-pub returns : goal.returns
+pub returns-else-defined-eq0 : goal.returns-else-defined-eq0
 unfolding register
-returns c =
+returns-else-defined-eq0 c =
     laid_as (sym (cond-false _ _ _ (ne_eqb c.args.defined 0 c.if-defined-eq0.false))) c.decimal.ensures

@@ -1,4 +1,3 @@
-use Prim.Native.Nat.{◌≤◌, ◌-◌}
 use Rattle.words.specs.Small.{counting, concat_map}
 use Rattle.lines.specs.Outcome.{register_at}
 use Rattle.lines.proofs.Rows.{Rows}
@@ -6,7 +5,4 @@ use Rattle.lines.proofs.outcome.registers.Given as goal
 
 -- The first k registers are laid. Assumes nothing.
 abbrev pub invariant-loop-k : goal.invariant-loop-k
-invariant-loop-k l = (l.k ≤ 8) × Rows 6 l.initial.text l.at (concat_map (register_at l.outcome l.p) (counting 0 l.k)) l.text l.end l.k
-
-abbrev pub decreases-loop-k : goal.decreases-loop-k
-decreases-loop-k l = 8 - l.k
+invariant-loop-k l = Rows 6 l.initial.text l.at (concat_map (register_at l.outcome l.p) (counting 0 l.k)) l.text l.end l.k

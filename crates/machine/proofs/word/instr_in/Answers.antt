@@ -2,6 +2,7 @@ use mathlib.Core.Path.{ap, sym}
 use Prim.Native.Nat.{ℕ}
 use Rattle.machine.specs.Word.{instr_in}
 use Rattle.cases.proofs.Decoding.{no_instr}
+use borrow.Author.Rules.{rules}
 use Rattle.machine.proofs.word.instr_in.Goals as goal
 
 pub returns-in-1 : goal.returns-in-1
@@ -35,7 +36,4 @@ pub returns-in-10 : goal.returns-in-10
 returns-in-10 c = rw c.in-10.is
 
 pub returns-in_default : goal.returns-in_default
-returns-in_default c =
-    let a = c.args in
-    let no = c.in_default.in_default-own.rest in
-    no_instr a.op a.d _ _ _ no.0.0.0.0.0.0.0.0.0.1 no.0.0.0.0.0.0.0.0.1 no.0.0.0.0.0.0.0.1 no.0.0.0.0.0.0.1 no.0.0.0.0.0.1 no.0.0.0.0.1 no.0.0.0.1 no.0.0.1 no.0.1 no.1
+returns-in_default c = let a = c.args in no_instr a.op a.d _ _ _ (search rules) (search rules) (search rules) (search rules) (search rules) (search rules) (search rules) (search rules) (search rules) (search rules)

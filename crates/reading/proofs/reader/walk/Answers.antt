@@ -1,25 +1,22 @@
-use Rattle.reading.proofs.Walking.{going_start, unended, untaken, going_on, ended_all}
+use Rattle.reading.proofs.Walking.{unended, untaken, going_on, ended_none, ended_some}
 use borrow.Author.Rules.{rules}
 use Rattle.reading.proofs.reader.walk.Goals as goal
 
-pub loop-at-init : goal.loop-at-init
-loop-at-init c = going_start _ _
+pub returns-in_default : goal.returns-in_default
+returns-in_default c = unended _ _ _ _ c.loop-at.invariant _ c.in_default.ensures.found (search rules) c.loop-at-test.true
 
-pub find-e-requires : goal.find-e-requires
-find-e-requires c = c.loop-at.invariant.inside
-
-pub returns-then-e-text : goal.returns-then-e-text
-returns-then-e-text c = unended _ _ _ _ _ c.loop-at.invariant _ c.find-e.ensures (search rules) c.loop-at-test.true
-
-pub returns-then-not-ok : goal.returns-then-not-ok
-returns-then-not-ok c =
+pub returns-in_default-taken : goal.returns-in_default-taken
+returns-in_default-taken c =
     let g = c.loop-at.invariant in
-    untaken _ _ _ _ _ g c.find-e.result c.taken-t.result c.find-e.ensures (search rules) (c.taken-t.ensures g.draft g.holds) c.if-not-ok.true
+    untaken _ _ _ _ g c.in-Some.end c.in-Some.ensures.found c.in-Some.ensures.inside (c.in_default-taken.ensures g.draft g.holds)
 
 pub loop-at-preserved : goal.loop-at-preserved
 loop-at-preserved c =
     let g = c.loop-at.invariant in
-    going_on _ _ _ _ _ g c.find-e.result c.taken-t.result c.find-e.ensures (search rules) (c.taken-t.ensures g.draft g.holds) c.if-not-ok.false
+    going_on _ _ _ _ g c.in-Some.end c.in-Some-taken.more c.in-Some.ensures.found c.in-Some.ensures.inside (c.in-Some-taken.ensures g.draft g.holds)
 
-pub returns : goal.returns
-returns c = ended_all _ _ _ _ _ c.loop-at.invariant c.loop-at-test.false
+pub returns-in-Some-sheet : goal.returns-in-Some-sheet
+returns-in-Some-sheet c = ended_some _ _ _ _ _ c.loop-at.invariant c.loop-at-test.false c.in-Some-sheet.is
+
+pub returns-in-None : goal.returns-in-None
+returns-in-None c = ended_none _ _ _ _ c.loop-at.invariant c.loop-at-test.false c.in-None.is

@@ -1,20 +1,16 @@
-use mathlib.Core.Path.{◌≡◌, sym, subst}
-use mathlib.Core.Logic.{⊎_elim}
-use Prim.Native.Nat.{ℕ}
-use lib.ListN.{get_or}
-use Rattle.judging.proofs.Small.{same?}
-use borrow.Author.Rules.{rules}
-use native.Mathlib.Omega.{arith}
+use Rattle.std.proofs.Common.{◌≡◌, ℕ, drop, rules, tests}
+use Rattle.std.proofs.lemmas.List.{take_rest}
+use Rattle.std.proofs.lemmas.Iterator.{IsFirst-from_position, YieldsList-from_slice}
+use mathlib.Core.Path.{◌∙◌}
+use Rattle.scanning.proofs.Scanning.{found_end, found_ahead}
 use Rattle.scanning.proofs.finding.find.Goals as goal
 
-pub loop-i-init : goal.loop-i-init
-loop-i-init c = (search rules, search rules, λ k a b. absurd (omega arith))
+pub returns-in_err-ahead-clause-found : goal.returns-in_err-ahead-clause-found
+returns-in_err-ahead-clause-found c =
+    let a = c.args in
+    rw c.from_residual.ensures (found_end a.byte a.bytes.now a.from c.requires (IsFirst-from_position _ _ _ (λ (x : ℕ). x ≡ a.byte) (λ (x : ℕ). x ≡ a.byte → ⊥) c.in_err-ahead.ensures.ran (YieldsList-from_slice (drop a.from a.bytes.now) (c.iter.ensures.rest ∙ take_rest a.bytes.now a.from)) (λ x q k. search (rules, tests)) (λ x q k. search (rules, tests))))
 
-pub returns-then-bytes-i : goal.returns-then-bytes-i
-returns-then-bytes-i c = let i = c.loop-i.invariant in record { low = i.0; high = search rules; none = i.2; here = λ h. search rules }
-
-pub loop-i-preserved : goal.loop-i-preserved
-loop-i-preserved c = let i = c.loop-i.invariant in (search rules, search rules, λ k a b. ⊎_elim (λ e. subst (λ (k : ℕ). get_or c.args.bytes.now k 0 ≡ c.args.byte → ⊥) (sym e) c.if-bytes-i.false) (λ e. i.2 k a (omega arith)) (same? k c.loop-i.i))
-
-pub returns : goal.returns
-returns c = let i = c.loop-i.invariant in record { low = i.0; high = i.1; none = i.2; here = λ h. absurd (omega arith) }
+pub returns-clause-found : goal.returns-clause-found
+returns-clause-found c =
+    let a = c.args in
+    found_ahead a.byte a.bytes.now a.from _ (IsFirst-from_position _ _ _ (λ (x : ℕ). x ≡ a.byte) (λ (x : ℕ). x ≡ a.byte → ⊥) c.in_ok-ahead.ensures.ran (YieldsList-from_slice (drop a.from a.bytes.now) (c.iter.ensures.rest ∙ take_rest a.bytes.now a.from)) (λ x q k. search (rules, tests)) (λ x q k. search (rules, tests)))

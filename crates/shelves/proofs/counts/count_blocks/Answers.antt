@@ -7,18 +7,16 @@ use Rattle.shelves.proofs.Adding.{none_yet, one_more, all_counted}
 use Rattle.shelves.proofs.counts.count_blocks.Goals as goal
 
 pub loop-i-init : goal.loop-i-init
-loop-i-init c = (omega arith, none_yet c.args.t c.args.file.now)
+loop-i-init c = none_yet c.args.t.now c.args.file.now
 
 pub loop-i-preserved : goal.loop-i-preserved
 loop-i-preserved c =
     let a = c.args in
-    let i = c.loop-i.i in (
-      omega arith,
-      c.count_block.ensures ∙ ap (λ (t : Tally). counted t (block_at a.file.now i)) c.loop-i.invariant.1 ∙ one_more a.t a.file.now i,
-    )
+    let i = c.loop-i.i in
+    c.count_block.ensures ∙ ap (λ (t : Tally). counted t (block_at a.file.now i)) c.loop-i.invariant ∙ one_more a.t.now a.file.now i
 
 pub returns : goal.returns
 returns c =
     let a = c.args in
     let over : c.loop-i.i ≡ length a.file.now / 512 = omega arith in
-    c.loop-i.invariant.1 ∙ ap (λ (n : ℕ). counted_all a.t (each n (block_at a.file.now))) over ∙ all_counted a.t a.file.now
+    c.loop-i.invariant ∙ ap (λ (n : ℕ). counted_all a.t.now (each n (block_at a.file.now))) over ∙ all_counted a.t.now a.file.now

@@ -11,7 +11,7 @@ returns-then-n-number c =
     let a = c.args in
     c.number-then-n-number.ensures.is ∙ sym (cond-true (ltb (a.n % 12) (byte a.block.now (4 + a.n / 12))) _ 0 (lt-ltb _ _ (subst (λ (k : ℕ). a.n % 12 < k) c.number.ensures.is c.if-n-number.true)))
 
-pub returns : goal.returns
-returns c =
+pub returns-else-n-number : goal.returns-else-n-number
+returns-else-n-number c =
     let a = c.args in
     sym (cond-false (ltb (a.n % 12) (byte a.block.now (4 + a.n / 12))) _ 0 (le-ltb _ _ (subst (λ (k : ℕ). k ≤ a.n % 12) c.number.ensures.is c.if-n-number.false)))

@@ -1,6 +1,4 @@
 use mathlib.Core.Path.{◌≡◌}
-use Prim.Native.Nat.{◌-◌, ◌≤◌}
-use lib.ListN.{length}
 use Rattle.words.specs.Small.{each}
 use Rattle.shelves.specs.Counts.{op_at}
 use Rattle.shelves.specs.Tallies.{raised_all}
@@ -8,7 +6,4 @@ use Rattle.shelves.proofs.counts.raise_ops.Given as goal
 
 -- The ops of the slots passed are raised. Assumes nothing.
 abbrev pub invariant-loop-n : goal.invariant-loop-n
-invariant-loop-n l = (l.n ≤ 48) × (length l.ops ≡ length l.initial.ops) × (l.ops ≡ raised_all l.initial.ops (each l.n (op_at l.block)))
-
-abbrev pub decreases-loop-n : goal.decreases-loop-n
-decreases-loop-n l = 48 - l.n
+invariant-loop-n l = l.ops ≡ raised_all l.initial.ops (each l.n (op_at l.block))

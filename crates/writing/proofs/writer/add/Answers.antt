@@ -5,5 +5,4 @@ use Rattle.writing.proofs.writer.add.Goals as goal
 pub returns : goal.returns
 returns c =
     let body = c.row_body-behind_body.ensures in
-    let done = line_laid (line_of c.args.row) (body.laid, body.row_len_bound) c.word.ensures in
-    record { laid = done.0; row_len_bound = done.1 }
+    line_laid (line_of c.args.row) (record { laid = body.laid; short = body.short }) c.word.ensures

@@ -1,4 +1,3 @@
-use Prim.Native.Nat.{◌-◌, ◌≤◌}
 use Rattle.words.specs.Small.{counting, concat_map}
 use Rattle.lines.proofs.Rows.{Rows}
 use Rattle.writing.specs.Laying.{op_text}
@@ -6,7 +5,4 @@ use Rattle.writing.proofs.writer.add_program.Given as goal
 
 -- The first i instructions are laid. Assumes nothing.
 abbrev pub invariant-loop-i : goal.invariant-loop-i
-invariant-loop-i l = (l.i ≤ l.count) × Rows 40 l.initial.page l.at (concat_map (op_text l.code l.p) (counting 0 l.i)) l.page l.to l.i
-
-abbrev pub decreases-loop-i : goal.decreases-loop-i
-decreases-loop-i l = l.count - l.i
+invariant-loop-i l = Rows 40 l.initial.page l.at (concat_map (op_text l.code l.p) (counting 0 l.i)) l.page l.to l.i

@@ -3,12 +3,7 @@ use Rattle.writing.proofs.writer.add_word.Goals as goal
 
 -- By whether it is zero. Assumes nothing.
 pub returns-then-v-eq0 : goal.returns-then-v-eq0
-returns-then-v-eq0 c =
-    let done = word_none c.args.page.now c.args.at c.args.l c.args.v c.if-v-eq0.true in
-    record { laid = done.0; v_len_bound = done.1 }
+returns-then-v-eq0 c = word_none c.args.page.now c.args.at c.args.l c.args.v c.if-v-eq0.true
 
-pub returns : goal.returns
-returns c =
-    let line = c.add.ensures in
-    let done = word_some c.args.l c.args.v c.if-v-eq0.false (line.laid, line.row_len_bound) in
-    record { laid = done.0; v_len_bound = done.1 }
+pub returns-else-v-eq0 : goal.returns-else-v-eq0
+returns-else-v-eq0 c = word_some c.args.l c.args.v c.if-v-eq0.false c.add.ensures

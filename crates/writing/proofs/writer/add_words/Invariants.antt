@@ -1,4 +1,3 @@
-use Prim.Native.Nat.{◌-◌, ◌≤◌}
 use Rattle.words.specs.Small.{counting, concat_map}
 use Rattle.lines.proofs.Rows.{Rows}
 use Rattle.writing.specs.Laying.{word_text}
@@ -6,7 +5,4 @@ use Rattle.writing.proofs.writer.add_words.Given as goal
 
 -- The first l locations are laid. Assumes nothing.
 abbrev pub invariant-loop-l : goal.invariant-loop-l
-invariant-loop-l l = (l.l ≤ 8) × Rows 40 l.initial.page l.at (concat_map (word_text l.memory) (counting 0 l.l)) l.page l.to l.l
-
-abbrev pub decreases-loop-l : goal.decreases-loop-l
-decreases-loop-l l = 8 - l.l
+invariant-loop-l l = Rows 40 l.initial.page l.at (concat_map (word_text l.memory) (counting 0 l.l)) l.page l.to l.l

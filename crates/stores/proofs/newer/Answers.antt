@@ -1,7 +1,0 @@
-use Rattle.stores.proofs.newer.Goals as goal
-
-pub returns-then-there : goal.returns-then-there
-returns-then-there c = rw c.if-there.true
-
-pub returns : goal.returns
-returns c = rw c.if-there.false
