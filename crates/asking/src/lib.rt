@@ -36,6 +36,7 @@ pub struct Question {
 }
 
 // What asking answers: the code, yes or no, the schedule's length in bytes, the cut mark, and the position that a block's code carries, 0 with any other.
+// Numbers and no Result: `answer_of` of specs/Asked.antt reads them so, and `womm_ask` hands them to C.
 #[derive(Clone, Copy)]
 pub struct Answer {
     pub code: u8,

@@ -29,7 +29,7 @@ pub fn machine_of(kind: u32) -> Buffering
     }
 }
 
-// How many records the buffer holds, whether a run was cut, and whether there was no room.
+// How many records the buffer holds, whether a run was cut, and whether there was no room: a mark and no Result, since `Searched` speaks of it.
 #[derive(Clone, Copy)]
 pub struct Tally {
     pub count: usize,

@@ -3,11 +3,10 @@ use mathlib.Core.Path.{◌≡◌, refl, sym, ◌∙◌, ap, subst}
 use mathlib.Core.Logic.{◌⊎◌, inl, inr, ⊎_elim}
 use mathlib.Core.Bool.{Bool, true, false, ◌||◌, ◌&&◌, false≢true}
 use mathlib.Core.List.{List, [], ◌∷◌, ◌++◌}
-use Prim.Native.Nat.{ℕ, ◌*◌, ◌-◌}
+use Prim.Native.Nat.{ℕ, ◌-◌}
 use native.Mathlib.Omega.{arith}
 use lib.Dec.{eqb, ltb}
-use lib.ListN.{length, replicate, drop}
-use Rattle.words.specs.Small.{concat_map}
+use lib.ListN.{length, replicate}
 use Rattle.words.proofs.Bools.{decide, or_cases, or_left, or_right, and_both, and_make}
 use Rattle.cases.specs.declared.Case.{Case}
 use Rattle.runs.specs.Listing.{below}

@@ -1,35 +1,25 @@
 -- The case of two legal plans: what the machine asks for, and straight. Assumes nothing.
 use mathlib.Core.Path.{◌≡◌, refl, sym, ◌∙◌, ap, subst}
-use mathlib.Core.Logic.{◌⊎◌, inl, inr, ⊎_elim}
-use mathlib.Core.Bool.{Bool, true, false, ◌&&◌, cond, false≢true}
+use mathlib.Core.Bool.{Bool, true, false, cond}
 use mathlib.Core.List.{List, [], ◌∷◌, ◌++◌, map}
-use mathlib.Core.Option.{some}
 use Prim.Native.Nat.{ℕ, zero, suc, ◌+◌, ◌*◌, ◌-◌, ◌≤◌, ◌<◌}
 use native.Mathlib.Omega.{arith}
-use native.Mathlib.Decide.{dec_lt}
 use lib.Dec.{eqb, ltb, leb}
 use lib.ListN.{length, get_or, replicate, length-append}
 use lib.Seq.{get_or-append-add}
-use borrow.Author.Tests.{ltb-true, ltb-false, lt-ltb, eqb-true, eqb-false, eq-eqb}
+use borrow.Author.Tests.{ltb-true, ltb-false, lt-ltb, eqb-true, eqb-false}
 use Rattle.words.specs.Small.{all}
-use Rattle.words.proofs.Bools.{decide, and_both, cond-true, cond-false}
-use Rattle.cases.specs.declared.Case.{Case}
+use Rattle.words.proofs.Bools.{and_both, cond-true, cond-false}
 use Rattle.cases.specs.declared.Slot.{Slot}
 use Rattle.cases.specs.declared.Instr.{Instr}
 use Rattle.cases.specs.declared.Instr.TheVariants.{Empty, Read, Write, Local, Branch, Goto, Acquire, Release}
-use Rattle.cases.specs.Case.{count_of, instr_at}
-use Rattle.rules.specs.Kinds.{kind, branching}
-use Rattle.rules.specs.Issue.{place_after}
+use Rattle.cases.specs.Case.{count_of}
 use Rattle.rules.specs.Building.{slot_of, slots_of}
 use Rattle.machine.specs.Fit.{Fine, Fit}
-use Rattle.runs.specs.Wanted.{Reaches}
-use Rattle.rules.specs.State.{initial}
-use Rattle.rules.specs.Step.{Step}
 use Rattle.rules.specs.Womm.{womm}
 use Rattle.runs.specs.Outcome.{Cut}
-use Rattle.handoffs.specs.declared.Plan.{Plan}
-use Rattle.handoffs.specs.Plans.{touching, how_many, is_plan, legal, Deed, fresh, deeds, locks, sends, receives, constants, case_for, bound}
-use Rattle.handoffs.specs.Inner.{plan_of, fresh_two, fresh_three, fresh_four, ready_at, Few, Level}
+use Rattle.handoffs.specs.Plans.{touching, how_many, is_plan, Deed, fresh, deeds, locks, sends, receives, case_for, bound}
+use Rattle.handoffs.specs.Inner.{plan_of, ready_at, Few, Level}
 use Rattle.handoffs.proofs.Level.{Plain, Straight, finished_exact, uncut}
 use Rattle.handoffs.proofs.Shapes.{Legal, few_long, ready_reg, ready_shape}
 

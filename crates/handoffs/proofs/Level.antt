@@ -1,14 +1,14 @@
 -- A finished run of two straight programs issues each instruction once and commits it once. Assumes nothing.
 use mathlib.Core.Path.{◌≡◌, refl, sym, ◌∙◌, ap, subst}
 use mathlib.Core.Logic.{◌⊎◌, inl, inr, ⊎_elim}
-use mathlib.Core.Bool.{Bool, true, false, not, ◌&&◌, cond, false≢true}
-use mathlib.Core.List.{List, [], ◌∷◌}
+use mathlib.Core.Bool.{true, false, not, ◌&&◌, false≢true}
+use mathlib.Core.List.{List}
 use mathlib.Core.Option.{Option, none, some}
 use Prim.Native.Nat.{ℕ, zero, suc, ◌+◌, ◌*◌, ◌≤◌, ◌<◌}
 use native.Mathlib.Omega.{arith}
-use lib.Dec.{eqb, ltb, leb}
+use lib.Dec.{eqb}
 use lib.ListN.{length}
-use borrow.Author.Tests.{eqb-true, eq-eqb, leb-false}
+use borrow.Author.Tests.{eq-eqb, leb-false}
 use Rattle.words.specs.Small.{is_none, or_zero, is, all, counting, put, some_below}
 use Rattle.words.proofs.Bools.{decide, and_both, and_make, put_same, put_other, below_cases, below_make, cond-false}
 use Rattle.cases.specs.declared.Case.{Case}

@@ -4,4 +4,5 @@ pub mod Shapes
 pub mod Fitting
 pub mod Sound
 pub mod Verdicts
+pub mod Turns
 pub mod Parts

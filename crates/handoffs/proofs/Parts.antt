@@ -1,27 +1,26 @@
 -- What the functions compute, step by step. Assumes nothing.
 use mathlib.Core.Path.{◌≡◌, refl, sym, ◌∙◌, ap, subst}
-use mathlib.Core.Logic.{◌⊎◌, inl, inr, ⊎_elim, ◌↔◌}
+use mathlib.Core.Logic.{◌↔◌}
 use mathlib.Core.Bool.{Bool, true, false, ◌&&◌, ◌||◌, not, cond, false≢true}
 use mathlib.Core.List.{List, [], ◌∷◌, ◌++◌}
 use Prim.Native.Nat.{ℕ, zero, suc, ◌+◌, ◌*◌, ◌≤◌, ◌<◌}
 use native.Mathlib.Omega.{arith}
 use lib.Dec.{eqb, ltb, leb}
-use lib.ListN.{length, get_or, set, drop, replicate, get_or-eq_default}
-use borrow.Author.Tests.{ltb-true, lt-ltb, le-ltb, eqb-true, eq-eqb, ne_eqb}
+use lib.ListN.{length, get_or, drop, replicate, get_or-eq_default}
+use borrow.Author.Tests.{ltb-true, lt-ltb, le-ltb, eq-eqb, ne_eqb}
 use Rattle.std.specs.Prelude.{Option, Some, None}
 use Rattle.std.specs.Option.{is_some}
 use Rattle.words.specs.Refusals.{first_code_of}
-use Rattle.words.proofs.Bools.{decide, and_both, cond-true, cond-false}
+use Rattle.words.proofs.Bools.{and_both, cond-true, cond-false}
 use Rattle.cases.specs.declared.Case.{Case}
 use Rattle.cases.specs.declared.Slot.{Slot}
 use Rattle.cases.specs.declared.Instr.{Instr}
-use Rattle.cases.specs.declared.Instr.TheVariants.{Empty, Read, Write, Acquire, Release}
+use Rattle.cases.specs.declared.Instr.TheVariants.{Read, Write}
 use Rattle.clauses.specs.declared.Clause.{Clause}
 use Rattle.clauses.specs.declared.Asked.{Asked}
-use Rattle.clauses.specs.Wanted.{no_clauses, with_clause, wanted, Askable, meets_all, holds_in}
+use Rattle.clauses.specs.Wanted.{no_clauses, with_clause, wanted, Askable, meets_all}
 use Rattle.rules.specs.State.{initial}
 use Rattle.rules.specs.Womm.{womm}
-use Rattle.rules.specs.Building.{slot_of}
 use Rattle.rules.specs.Bytes.{step_bytes}
 use Rattle.runs.specs.Listing.{below}
 use Rattle.machine.specs.Fit.{Fit}
@@ -29,11 +28,11 @@ use Rattle.runs.specs.Wanted.{Wish, WantedFrom}
 use Rattle.runs.specs.Asking.{Answered, IsAnswer}
 use Rattle.handoffs.specs.declared.Plan.{Plan}
 use Rattle.handoffs.specs.Plans.{touching, legal, fresh, locks, sends, receives, case_for, bound}
-use Rattle.handoffs.specs.Verdict.{holds, stale_in, Stale, Stuck, Safe, Handed, IsVerdict, Refused, handoff_refusals, IsHandoff}
-use Rattle.handoffs.specs.Inner.{Found, found_of, plan_of, passing, four_at, fresh_two, fresh_three, fresh_four, no_code, receiver_code, presets_of, ready_at, touched_by, clause_of, asked_for, IsLow, Level, or_else, Improved, ImprovedTwice, stale_at, stale_any, Few, any_outcome}
+use Rattle.handoffs.specs.Verdict.{holds, stale_in, Stale, Stuck, Handed, IsVerdict, Refused, handoff_refusals, IsHandoff}
+use Rattle.handoffs.specs.Inner.{deed_of, Found, found_of, plan_of, passing, four_at, fresh_two, fresh_three, fresh_four, receiver_code, presets_of, ready_at, touched_by, clause_of, asked_for, IsLow, Level, or_else, Improved, ImprovedTwice, stale_at, stale_any, Few, any_outcome}
 use Rattle.handoffs.proofs.Either.{kept-none, taken_first, kept_lower, taken_lower, low_same}
 use Rattle.handoffs.specs.Given.{Short}
-use Rattle.handoffs.proofs.Shapes.{Legal, legal-parts, few_long, legal-shape, sender_code, case_shape, stale-shape}
+use Rattle.handoffs.proofs.Shapes.{legal-parts, legal-shape, sender_code, case_shape, stale-shape}
 use Rattle.handoffs.proofs.Fitting.{fit, bound_small, level, few}
 use Rattle.handoffs.proofs.Verdicts.{Finishes, finishes_not-stuck, stuck-not_finishes, stale-not-stuck}
 
@@ -49,19 +48,7 @@ past_default l i a h = sym (get_or-eq_default l a h)
 pub legal_by : (s r : List ℕ) {p q : Plan} {a b : Bool} {m n : ℕ} → p ≡ plan_of s → q ≡ plan_of r → a ≡ four_at p → b ≡ four_at q → m ≡ passing (λ d. eqb d 3) q → n ≡ passing (λ d. ltb d 4) q → (a && b && eqb m 1 && leb n 3) ≡ legal s r
 legal_by s r e f a b m n = (λ i. (a ∙ ap four_at e) i && (b ∙ ap four_at f) i && eqb ((m ∙ ap (passing (λ d. eqb d 3)) f) i) 1 && leb ((n ∙ ap (passing (λ d. ltb d 4)) f) i) 3) ∙ legal-shape s r
 
--- tests of one action
-pub one_true : (d k : ℕ) → d ≡ k → ◌≡◌ {A = ℕ} 1 (cond (eqb d k) 1 0) × (1 ≤ 1)
-one_true d k h = (sym (cond-true {A = ℕ} (eqb d k) 1 0 (eq-eqb d k h)), omega arith)
-
-pub one_false : (d k : ℕ) → (d ≡ k → ⊥) → ◌≡◌ {A = ℕ} 0 (cond (eqb d k) 1 0) × (0 ≤ 1)
-one_false d k h = (sym (cond-false {A = ℕ} (eqb d k) 1 0 (ne_eqb d k h)), omega arith)
-
-pub low-true : (d k : ℕ) → d < k → ◌≡◌ {A = ℕ} 1 (cond (ltb d k) 1 0) × (1 ≤ 1)
-low-true d k h = (sym (cond-true {A = ℕ} (ltb d k) 1 0 (lt-ltb d k h)), omega arith)
-
-pub low-false : (d k : ℕ) → k ≤ d → ◌≡◌ {A = ℕ} 0 (cond (ltb d k) 1 0) × (0 ≤ 1)
-low-false d k h = (sym (cond-false {A = ℕ} (ltb d k) 1 0 (le-ltb d k h)), omega arith)
-
+-- the register for a read
 pub fresh-true : (k d : ℕ) → d < 4 → (k + 1 ≡ fresh k d) × (k + 1 ≤ k + 1)
 fresh-true k d h = let e : k + 1 ≡ suc k = omega arith in (e ∙ sym (cond-true {A = ℕ} (touching d) (suc k) k (lt-ltb d 4 h)), omega arith)
 
@@ -69,15 +56,6 @@ pub fresh-false : (k d : ℕ) → 4 ≤ d → (k ≡ fresh k d) × (k ≤ k + 1)
 fresh-false k d h = (sym (cond-false {A = ℕ} (touching d) (suc k) k (le-ltb d 4 h)), omega arith)
 
 -- the instructions
-pub locks_4 : (d : ℕ) → d ≡ 4 → Acquire 4 ≡ locks d
-locks_4 d h = sym (cond-true (eqb d 4) (Acquire 4) _ (eq-eqb d 4 h))
-
-pub locks_5 : (d : ℕ) → (d ≡ 4 → ⊥) → d ≡ 5 → Release 4 ≡ locks d
-locks_5 d h k = sym (cond-false (eqb d 4) (Acquire 4) _ (ne_eqb d 4 h) ∙ cond-true (eqb d 5) (Release 4) Empty (eq-eqb d 5 k))
-
-pub locks_6 : (d : ℕ) → (d ≡ 4 → ⊥) → (d ≡ 5 → ⊥) → Empty ≡ locks d
-locks_6 d h k = sym (cond-false (eqb d 4) (Acquire 4) _ (ne_eqb d 4 h) ∙ cond-false (eqb d 5) (Release 4) Empty (ne_eqb d 5 k))
-
 pub word_sent : (d : ℕ) → d < 4 → Write d 1 ≡ sends d
 word_sent d h = sym (cond-true (touching d) (Write d 1) (locks d) (lt-ltb d 4 h))
 
@@ -90,52 +68,10 @@ word_read d k h = sym (cond-true (touching d) (Read k d) (locks d) (lt-ltb d 4 h
 pub lock_read : (d k : ℕ) {x : Instr} → 4 ≤ d → x ≡ locks d → x ≡ receives (record { byte = d; register = k })
 lock_read d k h e = e ∙ sym (cond-false (touching d) (Read k d) (locks d) (le-ltb d 4 h))
 
-pub sender_by : (p : Plan) {code : List Slot} {a b d e : Instr} → code ≡ no_code → a ≡ sends p.first → b ≡ sends p.second → d ≡ sends p.third → e ≡ sends p.fourth
-    → set (set (set (set code 0 (slot_of a)) 1 (slot_of b)) 2 (slot_of d)) 3 (slot_of e) ≡ sender_code p
-sender_by p z a b d e = λ i. set (set (set (set (z i) 0 (slot_of (a i))) 1 (slot_of (b i))) 2 (slot_of (d i))) 3 (slot_of (e i))
-
-pub receiver_by : (code : List Slot) (p : Plan) {two three four : ℕ} {a b d e : Instr} → (two ≡ fresh 5 p.first) × (two ≤ 6) → (three ≡ fresh two p.second) × (three ≤ two + 1) → (four ≡ fresh three p.third) × (four ≤ three + 1)
-    → a ≡ receives (record { byte = p.first; register = 5 }) → b ≡ receives (record { byte = p.second; register = two }) → d ≡ receives (record { byte = p.third; register = three }) → e ≡ receives (record { byte = p.fourth; register = four })
-    → set (set (set (set code 12 (slot_of a)) 13 (slot_of b)) 14 (slot_of d)) 15 (slot_of e) ≡ receiver_code code p
-receiver_by code p {two} {three} {four} x y z a b d e =
-    let t : two ≡ fresh_two p = x.0 in
-    let u : three ≡ fresh_three p = y.0 ∙ ap (λ (k : ℕ). fresh k p.second) t in
-    let v : four ≡ fresh_four p = z.0 ∙ ap (λ (k : ℕ). fresh k p.third) u in
-    (λ i. set (set (set (set code 12 (slot_of (a i))) 13 (slot_of (b i))) 14 (slot_of (d i))) 15 (slot_of (e i)))
-    ∙ (λ i.
-    set
-    (set (set (set code 12 (slot_of (receives (record { byte = p.first; register = 5 })))) 13 (slot_of (receives (record { byte = p.second; register = t i }))))
-    14 (slot_of (receives (record { byte = p.third; register = u i }))))
-    15 (slot_of (receives (record { byte = p.fourth; register = v i }))))
-
 pub case_by : (s r : List ℕ) {p q : Plan} {pre : List ℕ} {first code : List Slot} → Short s r → p ≡ plan_of s → q ≡ plan_of r → pre ≡ presets_of → first ≡ sender_code p → code ≡ receiver_code first q
     → record { procs = 2; locs = 5; counts = p.count ∷ q.count ∷ 0 ∷ 0 ∷ []; masks = 31 ∷ 31 ∷ 0 ∷ 0 ∷ []; presets = pre; memory = replicate 8 0; code = code } ≡ case_for s r
 case_by s r {p} {q} {pre} {first} {code} short e f g h k =
     (λ i. record { procs = 2; locs = 5; counts = (e i).count ∷ (f i).count ∷ 0 ∷ 0 ∷ []; masks = 31 ∷ 31 ∷ 0 ∷ 0 ∷ []; presets = g i; memory = replicate 8 0; code = (k ∙ (λ j. receiver_code ((h ∙ ap sender_code e) j) (f j))) i }) ∙ case_shape s r short.sender short.receiver
-
--- where ready is read
-pub ready_1 : (p : Plan) → p.first ≡ 3 → (5 ≡ ready_at p) × (5 ≤ 8)
-ready_1 p h = (sym (cond-true {A = ℕ} (eqb p.first 3) 5 _ (eq-eqb p.first 3 h)), omega arith)
-
-module _ (p : Plan) (h : p.first ≡ 3 → ⊥) {two : ℕ} (x : (two ≡ fresh 5 p.first) × (two ≤ 6)) where
-  not_first : ready_at p ≡ cond (eqb p.second 3) (fresh_two p) (cond (eqb p.third 3) (fresh_three p) (fresh_four p))
-  not_first = cond-false {A = ℕ} (eqb p.first 3) 5 _ (ne_eqb p.first 3 h)
-
-  pub ready_2 : p.second ≡ 3 → (two ≡ ready_at p) × (two ≤ 8)
-  ready_2 k = (x.0 ∙ sym (not_first ∙ cond-true {A = ℕ} (eqb p.second 3) (fresh_two p) _ (eq-eqb p.second 3 k)), omega (arith, x.1))
-
-  module _ (k : p.second ≡ 3 → ⊥) {three : ℕ} (y : (three ≡ fresh two p.second) × (three ≤ two + 1)) where
-    is_three : three ≡ fresh_three p
-    is_three = y.0 ∙ ap (λ (j : ℕ). fresh j p.second) x.0
-
-    not-second : ready_at p ≡ cond (eqb p.third 3) (fresh_three p) (fresh_four p)
-    not-second = not_first ∙ cond-false {A = ℕ} (eqb p.second 3) (fresh_two p) _ (ne_eqb p.second 3 k)
-
-    pub ready_3 : p.third ≡ 3 → (three ≡ ready_at p) × (three ≤ 8)
-    ready_3 l = (is_three ∙ sym (not-second ∙ cond-true {A = ℕ} (eqb p.third 3) (fresh_three p) _ (eq-eqb p.third 3 l)), omega (arith, x.1, y.1))
-
-    pub ready_4 : (p.third ≡ 3 → ⊥) → {four : ℕ} → (four ≡ fresh three p.third) × (four ≤ three + 1) → (four ≡ ready_at p) × (four ≤ 8)
-    ready_4 l z = (z.0 ∙ ap (λ (j : ℕ). fresh j p.third) is_three ∙ sym (not-second ∙ cond-false {A = ℕ} (eqb p.third 3) (fresh_three p) _ (ne_eqb p.third 3 l)), omega (arith, x.1, y.1, z.1))
 
 -- the clauses
 pub asked_by : (ready other : ℕ) {none one two : Asked} {a b : Clause} → none ≡ no_clauses → a ≡ clause_of ready 1 → one ≡ with_clause none a → b ≡ clause_of other 0 → two ≡ with_clause one b → two ≡ asked_for ready other
@@ -234,34 +170,34 @@ any_asked c n none e x = (λ h. subst (λ (W : Wish). WantedFrom (womm c) W (ini
     same = ap wanted e ∙ (λ i o. none_means o i)
 
 -- the registers of the third and the fourth action
-module _ (p : Plan) (F : Few p) {two three : ℕ} (x : (two ≡ fresh 5 p.first) × (two ≤ 6)) (y : (three ≡ fresh two p.second) × (three ≤ two + 1)) where
+module _ (p : Plan) (F : Few p) {two three : ℕ} (x : (two ≡ fresh 5 (deed_of p 0)) × (two ≤ 6)) (y : (three ≡ fresh two (deed_of p 1)) × (three ≤ two + 1)) where
   third_is : three ≡ fresh_three p
-  third_is = y.0 ∙ ap (λ (j : ℕ). fresh j p.second) x.0
+  third_is = y.0 ∙ ap (λ (j : ℕ). fresh j (deed_of p 1)) x.0
 
-  pub few_third : p.third < 4 → three < 8
+  pub few_third : deed_of p 2 < 4 → three < 8
   few_third h = omega (arith, third_is, F.third h)
 
-  pub few_fourth : {four : ℕ} → (four ≡ fresh three p.third) × (four ≤ three + 1) → p.fourth < 4 → four < 8
-  few_fourth z h = let v : ◌≡◌ {A = ℕ} _ (fresh_four p) = z.0 ∙ ap (λ (j : ℕ). fresh j p.third) third_is in omega (arith, v, F.fourth h)
+  pub few_fourth : {four : ℕ} → (four ≡ fresh three (deed_of p 2)) × (four ≤ three + 1) → deed_of p 3 < 4 → four < 8
+  few_fourth z h = let v : ◌≡◌ {A = ℕ} _ (fresh_four p) = z.0 ∙ ap (λ (j : ℕ). fresh j (deed_of p 2)) third_is in omega (arith, v, F.fourth h)
 
 pub few_ready : (p : Plan) → Few p → {ready : ℕ} → (ready ≡ ready_at p) × (ready ≤ 8) → ready < 8
 few_ready p F x = omega (arith, x.0, F.ready)
 
 pub low_all : (c : Case) (n : ℕ) (s r : Plan) {ready two three four : ℕ} {a b : Found} {first second out : List ℕ}
-    → first ≡ replicate 384 0 → (ready ≡ ready_at r) × (ready ≤ 8) → (two ≡ fresh 5 r.first) × (two ≤ 6) → (three ≡ fresh two r.second) × (three ≤ two + 1) → (four ≡ fresh three r.third) × (four ≤ three + 1)
-    → ImprovedTwice c (stale_at s ready r.first 5) (stale_at s ready r.second two) n (record { yes = false; length = 0 }) first a second
-    → ImprovedTwice c (stale_at s ready r.third three) (stale_at s ready r.fourth four) n a second b out
+    → first ≡ replicate 384 0 → (ready ≡ ready_at r) × (ready ≤ 8) → (two ≡ fresh 5 (deed_of r 0)) × (two ≤ 6) → (three ≡ fresh two (deed_of r 1)) × (three ≤ two + 1) → (four ≡ fresh three (deed_of r 2)) × (four ≤ three + 1)
+    → ImprovedTwice c (stale_at s ready (deed_of r 0) 5) (stale_at s ready (deed_of r 1) two) n (record { yes = false; length = 0 }) first a second
+    → ImprovedTwice c (stale_at s ready (deed_of r 2) three) (stale_at s ready (deed_of r 3) four) n a second b out
     → IsLow c (stale_any s r) n b out
 low_all c n s r {ready} {two} {three} {four} zeros q x y z f g =
     let t : two ≡ fresh_two r = x.0 in
-    let u : three ≡ fresh_three r = y.0 ∙ ap (λ (k : ℕ). fresh k r.second) t in
-    let v : four ≡ fresh_four r = z.0 ∙ ap (λ (k : ℕ). fresh k r.third) u in
+    let u : three ≡ fresh_three r = y.0 ∙ ap (λ (k : ℕ). fresh k (deed_of r 1)) t in
+    let v : four ≡ fresh_four r = z.0 ∙ ap (λ (k : ℕ). fresh k (deed_of r 2)) u in
     let none : List ℕ → Bool = λ o. false in
-    low_same c n (or_else (or_else (or_else (or_else none (stale_at s ready r.first 5)) (stale_at s ready r.second two)) (stale_at s ready r.third three)) (stale_at s ready r.fourth four)) (stale_any s r)
+    low_same c n (or_else (or_else (or_else (or_else none (stale_at s ready (deed_of r 0) 5)) (stale_at s ready (deed_of r 1) two)) (stale_at s ready (deed_of r 2) three)) (stale_at s ready (deed_of r 3) four)) (stale_any s r)
     (λ o i.
-    (((false || stale_at s (q.0 i) r.first 5 o) || stale_at s (q.0 i) r.second (t i) o) || stale_at s (q.0 i) r.third (u i) o)
-    || stale_at s (q.0 i) r.fourth (v i) o)
-    (g (or_else (or_else none (stale_at s ready r.first 5)) (stale_at s ready r.second two)) (f none (low-none c n zeros)))
+    (((false || stale_at s (q.0 i) (deed_of r 0) 5 o) || stale_at s (q.0 i) (deed_of r 1) (t i) o) || stale_at s (q.0 i) (deed_of r 2) (u i) o)
+    || stale_at s (q.0 i) (deed_of r 3) (v i) o)
+    (g (or_else (or_else none (stale_at s ready (deed_of r 0) 5)) (stale_at s ready (deed_of r 1) two)) (f none (low-none c n zeros)))
 
 -- the answer for legal plans
 module _ (s r : List ℕ) (lawful : legal s r ≡ true) {c : Case} {p q : Plan} (cs : c ≡ case_for s r) (ps : p ≡ plan_of s) (qs : q ≡ plan_of r) where

@@ -1,23 +1,22 @@
 -- Plans by their four actions. Assumes nothing.
-use mathlib.Core.Path.{◌≡◌, refl, sym, ◌∙◌, ap, subst}
-use mathlib.Core.Logic.{◌⊎◌, inl, inr, ⊎_elim}
+use mathlib.Core.Path.{◌≡◌, refl, sym, ◌∙◌, ap}
+use mathlib.Core.Logic.{⊎_elim}
 use mathlib.Core.Bool.{Bool, true, false, ◌&&◌, ◌||◌, cond, false≢true}
 use mathlib.Core.List.{List, [], ◌∷◌, ◌++◌, map}
-use Prim.Native.Nat.{ℕ, zero, suc, ◌+◌, ◌*◌, ◌≤◌, ◌<◌}
+use Prim.Native.Nat.{ℕ, ◌+◌, ◌≤◌}
 use native.Mathlib.Omega.{arith}
 use lib.Dec.{eqb, ltb, leb}
 use lib.ListN.{length, get_or, set, replicate}
-use borrow.Author.Tests.{ltb-true, ltb-false, lt-ltb, leb-true, lt-leb, eqb-true, ne_eqb}
-use Rattle.words.specs.Small.{any, all}
-use Rattle.words.proofs.Bools.{decide, and_both, and_make, and_right, cond-true, cond-false}
-use Rattle.cases.specs.declared.Case.{Case}
+use borrow.Author.Tests.{ltb-true, leb-true, lt-leb, eqb-true, ne_eqb}
+use Rattle.words.specs.Small.{any}
+use Rattle.words.proofs.Bools.{decide, and_both, cond-true, cond-false}
 use Rattle.cases.specs.declared.Slot.{Slot}
 use Rattle.cases.specs.declared.Instr.TheVariants.{Empty}
 use Rattle.rules.specs.Building.{slot_of, slots_of}
 use Rattle.handoffs.specs.declared.Plan.{Plan}
-use Rattle.handoffs.specs.Plans.{touching, how_many, is_plan, legal, Deed, fresh, deeds, sends, receives, constants, case_for}
+use Rattle.handoffs.specs.Plans.{touching, how_many, is_plan, legal, fresh, deeds, sends, receives, case_for}
 use Rattle.handoffs.specs.Verdict.{holds, ready_as1, other_as0, stale_in}
-use Rattle.handoffs.specs.Inner.{plan_of, passing, four_at, fresh_two, fresh_three, fresh_four, no_code, receiver_code, presets_of, ready_at, touched_by, stale_at, stale_any, Few}
+use Rattle.handoffs.specs.Inner.{deed_of, plan_of, passing, four_at, fresh_two, fresh_three, fresh_four, no_code, receiver_code, presets_of, ready_at, touched_by, stale_any}
 
 -- LEGAL
 
@@ -109,14 +108,14 @@ legal-parts s r h =
 -- THE CASE
 
 sender_slots : Plan → List Slot
-sender_slots p = slot_of (sends p.first) ∷ slot_of (sends p.second) ∷ slot_of (sends p.third) ∷ slot_of (sends p.fourth) ∷ replicate 8 (slot_of Empty)
+sender_slots p = slot_of (sends (deed_of p 0)) ∷ slot_of (sends (deed_of p 1)) ∷ slot_of (sends (deed_of p 2)) ∷ slot_of (sends (deed_of p 3)) ∷ replicate 8 (slot_of Empty)
 
 receiver_slots : Plan → List Slot
 receiver_slots p =
-    slot_of (receives (record { byte = p.first; register = 5 }))
-    ∷ slot_of (receives (record { byte = p.second; register = fresh_two p }))
-    ∷ slot_of (receives (record { byte = p.third; register = fresh_three p }))
-    ∷ slot_of (receives (record { byte = p.fourth; register = fresh_four p }))
+    slot_of (receives (record { byte = deed_of p 0; register = 5 }))
+    ∷ slot_of (receives (record { byte = deed_of p 1; register = fresh_two p }))
+    ∷ slot_of (receives (record { byte = deed_of p 2; register = fresh_three p }))
+    ∷ slot_of (receives (record { byte = deed_of p 3; register = fresh_four p }))
     ∷ replicate 8 (slot_of Empty)
 
 sender_shape : (l : List ℕ) → length l ≤ 4 → sender_slots (plan_of l) ≡ slots_of (map sends l)
@@ -138,7 +137,7 @@ receiver_shape (a ∷ b ∷ d ∷ e ∷ []) h = refl
 receiver_shape (a ∷ b ∷ d ∷ e ∷ f ∷ l) h = absurd (omega arith)
 
 abbrev pub sender_code : Plan → List Slot
-sender_code p = set (set (set (set no_code 0 (slot_of (sends p.first))) 1 (slot_of (sends p.second))) 2 (slot_of (sends p.third))) 3 (slot_of (sends p.fourth))
+sender_code p = set (set (set (set no_code 0 (slot_of (sends (deed_of p 0)))) 1 (slot_of (sends (deed_of p 1)))) 2 (slot_of (sends (deed_of p 2)))) 3 (slot_of (sends (deed_of p 3)))
 
 code_shape : (s r : List ℕ) → length s ≤ 4 → length r ≤ 4 → receiver_code (sender_code (plan_of s)) (plan_of r) ≡ slots_of (map sends s) ++ (slots_of (map receives (deeds 5 r)) ++ replicate 24 (slot_of Empty))
 unfolding sender_slots receiver_slots

@@ -2,12 +2,12 @@
 use mathlib.Core.Path.{◌≡◌, refl, sym, ◌∙◌, ap, subst}
 use mathlib.Core.Logic.{⊎_elim}
 use mathlib.Core.Bool.{Bool, true, false, ◌&&◌, ◌||◌, not, cond, false≢true}
-use mathlib.Core.List.{List, [], ◌∷◌, ◌++◌, map, append_assoc}
+use mathlib.Core.List.{List, [], ◌∷◌, ◌++◌}
 use Prim.Native.Nat.{ℕ, zero, suc, ◌+◌, ◌*◌, ◌-◌, ◌/◌, ◌%◌, ◌≤◌, ◌<◌}
 use native.Mathlib.Omega.{arith}
 use native.Mathlib.Decide.{dec_lt}
 use lib.Dec.{eqb, ltb, leb}
-use lib.ListN.{length, get_or, replicate, length-append}
+use lib.ListN.{length, get_or, replicate}
 use lib.Seq.{get_or-append-add}
 use borrow.Author.Tests.{ltb-true, le-ltb, ltb-false, leb-true, lt-leb}
 use Rattle.words.specs.Small.{concat_map, some_below}
@@ -16,16 +16,15 @@ use Rattle.words.specs.Sets.{has}
 use Rattle.words.proofs.Bools.{decide, and_both, and_left, and_right, or_left, or_false}
 use Rattle.words.proofs.Lists.{get_d_mid, concat_map-length, concat_map_at}
 use Rattle.words.proofs.Passed.{unpassed}
-use Rattle.cases.specs.declared.Case.{Case}
 use Rattle.cases.specs.declared.Slot.{Slot}
 use Rattle.cases.specs.declared.Instr.{Instr}
 use Rattle.cases.specs.declared.Instr.TheVariants.{Empty, Read, Write, Local, Branch, Goto, Acquire, Release}
 use Rattle.cases.specs.Instruction.{instr_bytes, two, field_at, bad_field, is_read}
-use Rattle.cases.specs.Block.{within, proc_at, number_at, byte_at, byte, word, marked, no_proc, used, bad3, bad4, zero5, bad5, bad_byte, bad6, bad7, reads_at, assigns_at, is_set, bad19, faults, slot_bytes, contents, Sound}
+use Rattle.cases.specs.Block.{within, proc_at, number_at, byte_at, byte, word, marked, no_proc, used, bad3, bad4, zero5, bad5, bad_byte, bad6, bad7, reads_at, is_set, bad19, faults, slot_bytes, contents, Sound}
 use Rattle.cases.proofs.Lowest.{no_position}
 use Rattle.cases.proofs.Puts.{six-wide}
-use Rattle.rules.specs.Building.{slot_of, slots_of}
-use Rattle.handoffs.specs.Plans.{Deed, deeds, sends, receives, constants, case_for}
+use Rattle.rules.specs.Building.{slot_of}
+use Rattle.handoffs.specs.Plans.{constants, case_for}
 use Rattle.handoffs.proofs.Shapes.{Legal, few_long}
 use Rattle.handoffs.proofs.Fitting.{codes, codes_long, empty_past, Simple, simple_all}
 

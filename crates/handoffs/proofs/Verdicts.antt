@@ -1,12 +1,11 @@
 -- The three verdicts exclude each other and one always holds; at most one answer satisfies the statement; no bound loses anything.
-use mathlib.Core.Path.{◌≡◌, refl, sym, ◌∙◌, ap, subst}
-use mathlib.Core.Logic.{◌⊎◌, inl, inr, ⊎_elim, ◌↔◌}
-use mathlib.Core.Bool.{Bool, true, false, false≢true}
-use mathlib.Core.List.{List, [], ◌∷◌, ◌++◌}
-use Prim.Native.Nat.{ℕ, zero, suc, ◌*◌, ◌-◌, ◌≤◌, ◌<◌}
+use mathlib.Core.Path.{◌≡◌, refl, sym, ◌∙◌}
+use mathlib.Core.Logic.{◌⊎◌, inl, inr, ⊎_elim}
+use mathlib.Core.Bool.{true}
+use mathlib.Core.List.{List}
+use Prim.Native.Nat.{ℕ, zero, suc}
 use native.Mathlib.Omega.{arith}
-use lib.ListN.{length, replicate}
-use Rattle.words.specs.Small.{concat_map}
+use lib.ListN.{length}
 use Rattle.words.specs.Refusals.{first_code_of}
 use Rattle.runs.specs.Outcome.{Leads, Outcome, Cut}
 use Rattle.rules.specs.State.{State, initial}
@@ -16,12 +15,12 @@ use Rattle.cases.specs.Block.{Sound}
 use Rattle.rules.specs.Bytes.{step_bytes}
 use Rattle.rules.proofs.Listing.{still}
 use Rattle.rules.proofs.Candidates.{candidates, covers}
-use Rattle.runs.specs.Wanted.{Wish, WantedFrom, Reaches}
+use Rattle.runs.specs.Wanted.{Wish, WantedFrom}
 use Rattle.runs.proofs.Lowest.{wanted_reaches, reaches_wanted}
 use Rattle.runs.proofs.Asked.{laid_unique}
 use Rattle.runs.proofs.Least.{lowest_exists}
 use Rattle.handoffs.specs.Plans.{legal, case_for, bound}
-use Rattle.handoffs.specs.Verdict.{stale_in, model, Stale, Stuck, Safe, stale, stuck, safe, Handed, IsVerdict, Refused, handoff_refusals, IsHandoff}
+use Rattle.handoffs.specs.Verdict.{stale_in, model, Stale, Stuck, Safe, Handed, IsVerdict, Refused, handoff_refusals, IsHandoff}
 use Rattle.handoffs.specs.Inner.{any_outcome}
 use Rattle.handoffs.proofs.Fitting.{level, uncut_there}
 use Rattle.handoffs.proofs.Shapes.{legal-parts}

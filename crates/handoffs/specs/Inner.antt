@@ -1,6 +1,5 @@
 -- What the parts of the hand-off are given and answer. Assumes nothing.
-use Rattle.std.specs.Prelude.{◌≡◌, Option, Some, None, ◌↔◌, Bool, true, false, ◌&&◌, ◌||◌, cond, List, [], ◌∷◌, ◌++◌, ℕ, ◌+◌, ◌-◌, ◌≤◌, ◌<◌, eqb, ltb, leb, length, get_or, set, replicate}
-use Rattle.words.specs.Small.{any, concat_map}
+use Rattle.std.specs.Prelude.{◌≡◌, Option, Some, None, ◌↔◌, Bool, true, false, ◌&&◌, ◌||◌, cond, List, [], ◌∷◌, ◌++◌, ℕ, ◌+◌, ◌<◌, eqb, ltb, leb, length, get_or, set, replicate}
 use Rattle.cases.specs.declared.Case.{Case}
 use Rattle.cases.specs.declared.Instr.TheVariants.{Empty}
 use Rattle.cases.specs.declared.Slot.{Slot}
@@ -18,7 +17,7 @@ use Rattle.handoffs.specs.declared.Answer.{Answer}
 use Rattle.handoffs.specs.declared.Verdict.{Verdict}
 use Rattle.handoffs.specs.declared.Verdict.TheVariants.{Safe, Stale, Stuck}
 use Rattle.handoffs.specs.declared.Plan.{Plan}
-use Rattle.handoffs.specs.Plans.{touching, fresh, receives, constants}
+use Rattle.handoffs.specs.Plans.{fresh, receives, constants}
 use Rattle.handoffs.specs.Verdict.{Handed, holds, safe, stale, stuck}
 
 -- The number of a verdict.
@@ -41,30 +40,34 @@ handed_of a = record { code = a.code; verdict = a.verdict; length = a.length }
 
 -- A plan by value: its length and its first four actions, 6 where there is none.
 abbrev pub plan_of : List ℕ → Plan
-plan_of l = record { count = length l; first = get_or l 0 6; second = get_or l 1 6; third = get_or l 2 6; fourth = get_or l 3 6 }
+plan_of l = record { count = length l; deeds = get_or l 0 6 ∷ get_or l 1 6 ∷ get_or l 2 6 ∷ get_or l 3 6 ∷ [] }
+
+-- Action i of the four.
+abbrev pub deed_of : Plan → ℕ → ℕ
+deed_of p i = get_or p.deeds i 0
 
 -- How many of the four pass.
 abbrev pub passing : (ℕ → Bool) → Plan → ℕ
-passing f p = cond (f p.first) 1 0 + cond (f p.second) 1 0 + cond (f p.third) 1 0 + cond (f p.fourth) 1 0
+passing f p = cond (f (deed_of p 0)) 1 0 + cond (f (deed_of p 1)) 1 0 + cond (f (deed_of p 2)) 1 0 + cond (f (deed_of p 3)) 1 0
 
 -- At most four actions, each at most 5.
 abbrev pub four_at : Plan → Bool
 four_at p =
     leb p.count 4
-    && (leb p.count 0 || ltb p.first 6)
-    && (leb p.count 1 || ltb p.second 6)
-    && (leb p.count 2 || ltb p.third 6)
-    && (leb p.count 3 || ltb p.fourth 6)
+    && (leb p.count 0 || ltb (deed_of p 0) 6)
+    && (leb p.count 1 || ltb (deed_of p 1) 6)
+    && (leb p.count 2 || ltb (deed_of p 2) 6)
+    && (leb p.count 3 || ltb (deed_of p 3) 6)
 
 -- The registers for the second, third and fourth action.
 abbrev pub fresh_two : Plan → ℕ
-fresh_two p = fresh 5 p.first
+fresh_two p = fresh 5 (deed_of p 0)
 
 abbrev pub fresh_three : Plan → ℕ
-fresh_three p = fresh (fresh_two p) p.second
+fresh_three p = fresh (fresh_two p) (deed_of p 1)
 
 abbrev pub fresh_four : Plan → ℕ
-fresh_four p = fresh (fresh_three p) p.third
+fresh_four p = fresh (fresh_three p) (deed_of p 2)
 
 abbrev pub no_code : List Slot
 no_code = replicate 48 (slot_of Empty)
@@ -73,20 +76,20 @@ no_code = replicate 48 (slot_of Empty)
 abbrev pub receiver_code : List Slot → Plan → List Slot
 receiver_code code p =
     set
-    (set (set (set code 12 (slot_of (receives (record { byte = p.first; register = 5 })))) 13 (slot_of (receives (record { byte = p.second; register = fresh_two p }))))
-    14 (slot_of (receives (record { byte = p.third; register = fresh_three p }))))
-    15 (slot_of (receives (record { byte = p.fourth; register = fresh_four p })))
+    (set (set (set code 12 (slot_of (receives (record { byte = deed_of p 0; register = 5 })))) 13 (slot_of (receives (record { byte = deed_of p 1; register = fresh_two p }))))
+    14 (slot_of (receives (record { byte = deed_of p 2; register = fresh_three p }))))
+    15 (slot_of (receives (record { byte = deed_of p 3; register = fresh_four p })))
 
 abbrev pub presets_of : List ℕ
 presets_of = constants ++ (constants ++ replicate 16 0)
 
 -- The register that ready is read into.
 abbrev pub ready_at : Plan → ℕ
-ready_at p = cond (eqb p.first 3) 5 (cond (eqb p.second 3) (fresh_two p) (cond (eqb p.third 3) (fresh_three p) (fresh_four p)))
+ready_at p = cond (eqb (deed_of p 0) 3) 5 (cond (eqb (deed_of p 1) 3) (fresh_two p) (cond (eqb (deed_of p 2) 3) (fresh_three p) (fresh_four p)))
 
 -- The action touches this word, one of the first three.
 abbrev pub touched_by : Plan → ℕ → Bool
-touched_by p d = ltb d 3 && (eqb d p.first || eqb d p.second || eqb d p.third || eqb d p.fourth)
+touched_by p d = ltb d 3 && (eqb d (deed_of p 0) || eqb d (deed_of p 1) || eqb d (deed_of p 2) || eqb d (deed_of p 3))
 
 -- Register k of the receiver is v.
 abbrev pub clause_of : ℕ → ℕ → Clause
@@ -124,15 +127,15 @@ stale_at sending ready d k o = touched_by sending d && (holds o ready 1 && holds
 -- At most three reads, of which one is of ready: the registers are 5, 6 and 7.
 pub record Few (p : Plan) : Type 0 where
   pub ready : ready_at p < 8
-  pub second : p.second < 4 → fresh_two p < 8
-  pub third : p.third < 4 → fresh_three p < 8
-  pub fourth : p.fourth < 4 → fresh_four p < 8
+  pub second : deed_of p 1 < 4 → fresh_two p < 8
+  pub third : deed_of p 2 < 4 → fresh_three p < 8
+  pub fourth : deed_of p 3 < 4 → fresh_four p < 8
 
 -- One of the receiver's four actions is stale.
 abbrev pub stale_any : Plan → Plan → List ℕ → Bool
 stale_any s r o =
-    (((false || stale_at s (ready_at r) r.first 5 o) || stale_at s (ready_at r) r.second (fresh_two r) o) || stale_at s (ready_at r) r.third (fresh_three r) o)
-    || stale_at s (ready_at r) r.fourth (fresh_four r) o
+    (((false || stale_at s (ready_at r) (deed_of r 0) 5 o) || stale_at s (ready_at r) (deed_of r 1) (fresh_two r) o) || stale_at s (ready_at r) (deed_of r 2) (fresh_three r) o)
+    || stale_at s (ready_at r) (deed_of r 3) (fresh_four r) o
 
 -- Any outcome will do.
 abbrev pub any_outcome : List ℕ → Bool

@@ -9,7 +9,7 @@ ghost use Rattle.rules.specs.Building.{slot_of};
 ghost use Rattle.runs.specs.Wanted.{WantedFrom};
 ghost use Rattle.handoffs.specs.Plans.{legal as is_legal, fresh as is_fresh, locks as lock_of, sends as send_of, receives as receive_of, case_for};
 ghost use Rattle.handoffs.specs.Verdict.{IsVerdict, Refused, IsHandoff};
-ghost use Rattle.handoffs.specs.Inner.{handed_of, found_of, number_of, plan_of, passing, four_at, no_code, receiver_code, presets_of, ready_at, touched_by, asked_for, clause_of, IsLow, Improved, ImprovedTwice, stale_at, stale_any, any_outcome};
+ghost use Rattle.handoffs.specs.Inner.{handed_of, found_of, number_of, plan_of, deed_of, passing, four_at, no_code, receiver_code, presets_of, ready_at, touched_by, asked_for, clause_of, IsLow, Improved, ImprovedTwice, stale_at, stale_any, any_outcome};
 ghost use Rattle.handoffs.specs.Given.{Short, Bounded, Improving, Considering, ConsideringTwo, Comparing, Judging};
 
 use cases::{Case, Instr, Slot};
@@ -35,10 +35,16 @@ pub enum Verdict {
 #[derive(Clone, Copy)]
 pub struct Plan {
     pub count: usize,
-    pub first: u8,
-    pub second: u8,
-    pub third: u8,
-    pub fourth: u8,
+    pub deeds: [u8; 4],
+}
+
+// What all questions of one hand-off share: the case, the bound of its runs, the sending plan, and the register that ready is read into.
+#[derive(Clone, Copy)]
+struct Question {
+    case: Case,
+    bound: usize,
+    sending: Plan,
+    ready: u8,
 }
 
 // Action i of a plan, 6 where there is none.
@@ -53,10 +59,7 @@ fn plan_of(plan: &[u8]) -> Plan
 {
     Plan {
         count: plan.len(),
-        first: deed(plan, 0),
-        second: deed(plan, 1),
-        third: deed(plan, 2),
-        fourth: deed(plan, 3),
+        deeds: [deed(plan, 0), deed(plan, 1), deed(plan, 2), deed(plan, 3)],
     }
 }
 
@@ -64,25 +67,25 @@ fn plan_of(plan: &[u8]) -> Plan
 fn four_at(p: Plan) -> bool
     ensures { result ≡ four_at p }
 {
-    (p.count <= 4)
-        & ((p.count <= 0) | (p.first < 6))
-        & ((p.count <= 1) | (p.second < 6))
-        & ((p.count <= 2) | (p.third < 6))
-        & ((p.count <= 3) | (p.fourth < 6))
+    let mut fine = p.count <= 4;
+    for i in 0..4 {
+        fine &= (p.count <= i) | (p.deeds[i] < 6);
+    }
+    fine
 }
 
 // How many of the four actions read ready.
-fn readies(p: Plan) -> u8
+fn readies(p: Plan) -> usize
     ensures { result ≡ passing (λ d. eqb d 3) p }
 {
-    (p.first == 3) as u8 + (p.second == 3) as u8 + (p.third == 3) as u8 + (p.fourth == 3) as u8
+    p.deeds.iter().filter(|d| **d == 3).count()
 }
 
 // How many of the four actions touch a word.
-fn touches(p: Plan) -> u8
+fn touches(p: Plan) -> usize
     ensures { result ≡ passing (λ d. ltb d 4) p }
 {
-    (p.first < 4) as u8 + (p.second < 4) as u8 + (p.third < 4) as u8 + (p.fourth < 4) as u8
+    p.deeds.iter().filter(|d| **d < 4).count()
 }
 
 // Whether the plans are ones.
@@ -139,21 +142,14 @@ fn no_code() -> [Slot; 48]
 
 // The sender's instructions in the first four slots.
 fn with_sender(p: Plan) -> [Slot; 48]
-    ensures { result ≡ set (set (set (set no_code 0 (slot_of (send_of p.first))) 1 (slot_of (send_of p.second))) 2 (slot_of (send_of p.third))) 3 (slot_of (send_of p.fourth)) }
+    ensures { result ≡ set (set (set (set no_code 0 (slot_of (send_of (deed_of p 0)))) 1 (slot_of (send_of (deed_of p 1)))) 2 (slot_of (send_of (deed_of p 2)))) 3 (slot_of (send_of (deed_of p 3))) }
 {
     let mut code = no_code();
-    code[0] = Slot {
-        instr: sends(p.first),
-    };
-    code[1] = Slot {
-        instr: sends(p.second),
-    };
-    code[2] = Slot {
-        instr: sends(p.third),
-    };
-    code[3] = Slot {
-        instr: sends(p.fourth),
-    };
+    for i in 0..4 {
+        code[i] = Slot {
+            instr: sends(p.deeds[i]),
+        };
+    }
     code
 }
 
@@ -161,22 +157,14 @@ fn with_sender(p: Plan) -> [Slot; 48]
 fn with_receiver(start: [Slot; 48], p: Plan) -> [Slot; 48]
     ensures { result ≡ receiver_code start p }
 {
-    let two = fresh(5, p.first);
-    let three = fresh(two, p.second);
-    let four = fresh(three, p.third);
     let mut code = start;
-    code[12] = Slot {
-        instr: receives(p.first, 5),
-    };
-    code[13] = Slot {
-        instr: receives(p.second, two),
-    };
-    code[14] = Slot {
-        instr: receives(p.third, three),
-    };
-    code[15] = Slot {
-        instr: receives(p.fourth, four),
-    };
+    let mut k = 5;
+    for i in 0..4 {
+        code[12 + i] = Slot {
+            instr: receives(p.deeds[i], k),
+        };
+        k = fresh(k, p.deeds[i]);
+    }
     code
 }
 
@@ -212,25 +200,21 @@ fn case_for(sending: &[u8], receiving: &[u8]) -> Case
 fn ready_at(p: Plan) -> u8
     ensures { (result ≡ ready_at p) × (result ≤ 8) }
 {
-    if p.first == 3 {
-        return 5;
+    let mut k = 5;
+    for i in 0..3 {
+        if p.deeds[i] == 3 {
+            return k;
+        }
+        k = fresh(k, p.deeds[i]);
     }
-    let two = fresh(5, p.first);
-    if p.second == 3 {
-        return two;
-    }
-    let three = fresh(two, p.second);
-    if p.third == 3 {
-        return three;
-    }
-    fresh(three, p.third)
+    k
 }
 
 // Whether d is a word other than ready that the sender touches.
 fn touched_by(p: Plan, d: u8) -> bool
     ensures { result ≡ touched_by p d }
 {
-    (d < 3) & ((d == p.first) | (d == p.second) | (d == p.third) | (d == p.fourth))
+    (d < 3) & p.deeds.contains(&d)
 }
 
 // Register k of the receiver is v.
@@ -253,72 +237,56 @@ fn asked_for(ready: u8, other: u8) -> Asked
     clauses::with_clause(one, clause(other, 0))
 }
 
-// Asks for one outcome more, and keeps the lower of the two schedules: its length in bytes, if there is one.
-fn improve(
-    case: &Case,
-    n: usize,
-    asked: Asked,
-    best: Option<usize>,
-    out: &mut [u8],
-) -> Option<usize>
-    requires { Improving case.now n asked out.old }
-    ensures { Improved case.now (wanted asked) n (found_of best) out.old (found_of result) out.new }
-{
-    let mut other = [0u8; 384];
-    let a = asking::settle(case, n, asked, &mut other);
-    if a.yes {
-        if best.is_some() {
-            if records::below(&other, out) {
-                records::write(out, &other);
-                return Some(a.length);
+impl Question {
+    // Asks for one outcome more, and keeps the lower of the two schedules: its length in bytes, if there is one.
+    fn improve(&self, asked: Asked, best: Option<usize>, out: &mut [u8]) -> Option<usize>
+        requires { Improving self.now.case self.now.bound asked out.old }
+        ensures { Improved self.now.case (wanted asked) self.now.bound (found_of best) out.old (found_of result) out.new }
+    {
+        let mut other = [0u8; 384];
+        let a = asking::settle(&self.case, self.bound, asked, &mut other);
+        if a.yes {
+            if best.is_some() {
+                if records::below(&other, out) {
+                    records::write(out, &other);
+                    return Some(a.length);
+                }
+                return best;
             }
-            return best;
+            records::write(out, &other);
+            return Some(a.length);
         }
-        records::write(out, &other);
-        return Some(a.length);
-    }
-    best
-}
-
-// The same for an action d whose register is k, if it is one that can be stale.
-fn consider(
-    case: &Case,
-    n: usize,
-    sending: Plan,
-    ready: u8,
-    d: u8,
-    k: u8,
-    best: Option<usize>,
-    out: &mut [u8],
-) -> Option<usize>
-    requires { Considering case.now n ready d k out.old }
-    ensures { Improved case.now (stale_at sending ready d k) n (found_of best) out.old (found_of result) out.new }
-{
-    if touched_by(sending, d) {
-        improve(case, n, asked_for(ready, k), best, out)
-    } else {
         best
     }
-}
 
-// The same for two actions.
-fn consider_two(
-    case: &Case,
-    n: usize,
-    sending: Plan,
-    ready: u8,
-    d: u8,
-    k: u8,
-    e: u8,
-    l: u8,
-    best: Option<usize>,
-    out: &mut [u8],
-) -> Option<usize>
-    requires { ConsideringTwo case.now n ready d k e l out.old }
-    ensures { ImprovedTwice case.now (stale_at sending ready d k) (stale_at sending ready e l) n (found_of best) out.old (found_of result) out.new }
-{
-    let a = consider(case, n, sending, ready, d, k, best, out);
-    consider(case, n, sending, ready, e, l, a, out)
+    // The same for an action d whose register is k, if it is one that can be stale.
+    fn consider(&self, d: u8, k: u8, best: Option<usize>, out: &mut [u8]) -> Option<usize>
+        requires { Considering self.now.case self.now.bound self.now.ready d k out.old }
+        ensures { Improved self.now.case (stale_at self.now.sending self.now.ready d k) self.now.bound (found_of best) out.old (found_of result) out.new }
+    {
+        if touched_by(self.sending, d) {
+            self.improve(asked_for(self.ready, k), best, out)
+        } else {
+            best
+        }
+    }
+
+    // The same for two actions.
+    fn consider_two(
+        &self,
+        d: u8,
+        k: u8,
+        e: u8,
+        l: u8,
+        best: Option<usize>,
+        out: &mut [u8],
+    ) -> Option<usize>
+        requires { ConsideringTwo self.now.case self.now.bound self.now.ready d k e l out.old }
+        ensures { ImprovedTwice self.now.case (stale_at self.now.sending self.now.ready d k) (stale_at self.now.sending self.now.ready e l) self.now.bound (found_of best) out.old (found_of result) out.new }
+    {
+        let a = self.consider(d, k, best, out);
+        self.consider(e, l, a, out)
+    }
 }
 
 // The lowest stale schedule of all the receiver's reads together.
@@ -328,11 +296,17 @@ fn stalest(case: &Case, n: usize, s: Plan, r: Plan, out: &mut [u8]) -> Option<us
 {
     records::clear(out);
     let ready = ready_at(r);
-    let two = fresh(5, r.first);
-    let three = fresh(two, r.second);
-    let four = fresh(three, r.third);
-    let a = consider_two(case, n, s, ready, r.first, 5, r.second, two, None, out);
-    consider_two(case, n, s, ready, r.third, three, r.fourth, four, a, out)
+    let two = fresh(5, r.deeds[0]);
+    let three = fresh(two, r.deeds[1]);
+    let four = fresh(three, r.deeds[2]);
+    let question = Question {
+        case: *case,
+        bound: n,
+        sending: s,
+        ready,
+    };
+    let a = question.consider_two(r.deeds[0], 5, r.deeds[1], two, None, out);
+    question.consider_two(r.deeds[2], three, r.deeds[3], four, a, out)
 }
 
 // Whether any run finishes.

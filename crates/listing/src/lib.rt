@@ -9,6 +9,7 @@ use cases::Case;
 use searching::Tally;
 
 // What listing answers: the code, how many records there are, whether a run was cut, and the position that a block's code carries, 0 with any other.
+// Numbers and no Result: `answer_of` of specs/Outcomes.antt reads them so, and `womm_outcomes` hands them to C.
 #[derive(Clone, Copy)]
 pub struct Answer {
     pub code: u8,

@@ -13,6 +13,7 @@ use drafting::nothing;
 use texts::TextRead;
 
 // What turning a text into a block answers: the code, the line that 17 or 19 names, whether the text had a usual bound that is not 0.
+// Numbers and no Result: `Blocks` of specs/Blocks.antt speaks of such a record, and the exports hand its numbers to C.
 #[derive(Clone, Copy)]
 pub struct TextBlock {
     pub code: u8,

@@ -24,7 +24,7 @@ use cases::Case;
 use clauses::Asked;
 use machine::Machine;
 
-// How many records the buffer holds, whether a run was cut, and whether there was no room.
+// How many records the buffer holds, whether a run was cut, and whether there was no room: a mark and no Result, since `Searched` speaks of it.
 #[derive(Clone, Copy, Default)]
 pub struct Tally {
     pub count: usize,

@@ -17,6 +17,7 @@ pub enum Row {
 }
 
 // What reading a text answers: the code, the line that 17 or 19 names, whether an old text had a usual bound that is not 0, the case.
+// Numbers and no Result: `Reads` of specs/Reading.antt speaks of such a record.
 #[derive(Clone, Copy)]
 pub struct TextRead {
     pub code: u8,
@@ -26,6 +27,7 @@ pub struct TextRead {
 }
 
 // What writing a text answers: the code, the text's length, the position that a code of the record carries.
+// Numbers and no Result: `text_fault` of specs/Writing.antt is such a record, and the exports hand its numbers to C.
 #[derive(Clone, Copy)]
 pub struct TextWritten {
     pub code: u8,

@@ -1,18 +1,18 @@
-use Rattle.handoffs.proofs.Parts.{ready_1, ready_2, ready_3, ready_4}
+use native.Mathlib.Omega.{arith}
+use mathlib.Core.Path.{◌≡◌, sym, ◌∙◌, ap}
+use Prim.Native.Nat.{ℕ, suc, ◌+◌}
+use Rattle.handoffs.specs.Plans.{fresh}
+use Rattle.handoffs.specs.Inner.{deed_of}
+use Rattle.handoffs.proofs.Turns.{register_at, ready_from, not_ready}
 use Rattle.handoffs.proofs.ready_at.Goals as goal
 
--- The register of the read of ready. Assumes nothing.
-pub returns-then-p-eq3 : goal.returns-then-p-eq3
-returns-then-p-eq3 c = ready_1 c.args.p c.if-p-eq3.true
-
-pub returns-then-p-eq3-2 : goal.returns-then-p-eq3-2
-returns-then-p-eq3-2 c =
-    ready_2 c.args.p c.if-p-eq3.false c.fresh-two.ensures c.if-p-eq3-2.true
-
-pub returns-then-p-eq3-3 : goal.returns-then-p-eq3-3
-returns-then-p-eq3-3 c =
-    ready_3 c.args.p c.if-p-eq3.false c.fresh-two.ensures c.if-p-eq3-2.false c.fresh-three.ensures c.if-p-eq3-3.true
-
-pub returns : goal.returns
-returns c =
-    ready_4 c.args.p c.if-p-eq3.false c.fresh-two.ensures c.if-p-eq3-2.false c.fresh-three.ensures c.if-p-eq3-3.false c.fresh.ensures
+pub loop-i-preserved : goal.loop-i-preserved
+loop-i-preserved c =
+    let p = c.args.p in
+    let i = c.loop-i.i in
+    let x = c.loop-i.invariant in
+    let next : i + 1 ≡ suc i = omega arith in (
+      c.fresh-k.ensures.0 ∙ ap (λ (k : ℕ). fresh k (deed_of p i)) x.0 ∙ sym (ap (register_at p) next),
+      omega (arith, c.fresh-k.ensures.1, x.1),
+      x.2 ∙ not_ready p i c.loop-i-test.true c.if-p-i-eq3.false ∙ sym (ap (ready_from p) next),
+    )

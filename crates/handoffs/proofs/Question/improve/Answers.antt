@@ -1,7 +1,7 @@
 use mathlib.Core.Path.{sym, ◌∙◌}
 use Rattle.handoffs.proofs.Parts.{found_is, improve_none, improve_first, improve_kept, improve_lower, over_all}
 use borrow.Author.Rules.{rules}
-use Rattle.handoffs.proofs.improve.Goals as goal
+use Rattle.handoffs.proofs.Question.improve.Goals as goal
 
 pub returns-then-below : goal.returns-then-below
 returns-then-below c =
