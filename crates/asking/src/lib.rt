@@ -215,7 +215,8 @@ fn unnamed(k: Clause, procs: u8) -> bool
 fn unaskable(asked: Asked, procs: u8) -> bool
     ensures { result ≡ bad_clauses procs (clauses_of asked) }
 {
-    if 8 < asked.count {
+    let many = 8 < asked.count;
+    if many {
         return true;
     }
     for k in &asked.clauses[..asked.count] {

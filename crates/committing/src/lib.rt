@@ -12,6 +12,7 @@ ghost use Rattle.rules.specs.Step.{commit as commit_step};
 ghost use Rattle.orders.specs.Rows.{SetOf};
 ghost use Rattle.machine.specs.Shown.{holder_of, name_of, shown_entry, shown, Presets, Acts};
 ghost use Rattle.machine.specs.Given.{Accepted, Showing};
+ghost use Rattle.machine.specs.Lent.{machine_of};
 ghost use Rattle.sights.specs.Sights.{Names, Sight};
 ghost use Rattle.committing.specs.Committed.{releases, Acquired, KeptBy, rest_refusals, result_by, branch_to, place_by, locked_by};
 ghost use Rattle.committing.specs.Given.{Asking, AskingOne, Arrays, Shows, Locking, Acquiring, Keeping, Committing};
@@ -265,6 +266,7 @@ pub fn commit(case: &Case, m: &mut Machine, p: usize, k: usize, src: usize)
     requires { Committing m.old.places m.old.holders m.old.acts m.old.rows m.old.sets m.old.issued p k src }
     ensures kept { (m.new.names ≡ m.old.names) × (m.new.issued ≡ m.old.issued) }
     ensures showing { (c : TheCase) → Presets c case.now.masks case.now.presets → c.memory ≡ case.now.memory → Accepted c m.old (commit_step p k src) → Showing c (committed_of c (shown c m.old) p k src) m.new }
+    ensures whatever_named { (c : TheCase) (names : List ℕ) → Presets c case.now.masks case.now.presets → c.memory ≡ case.now.memory → Accepted c (machine_of m.old.issued m.old.places names m.old.holders m.old.acts m.old.rows m.old.sets) (commit_step p k src) → Showing c (committed_of c (shown c (machine_of m.old.issued m.old.places names m.old.holders m.old.acts m.old.rows m.old.sets)) p k src) (machine_of m.old.issued m.new.places names m.new.holders m.new.acts m.new.rows m.new.sets) }
 {
     let e = machine::entry_at(&m.acts, k);
     let kind = rules::kind_of(e.instr);

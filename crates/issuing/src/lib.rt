@@ -13,7 +13,7 @@ ghost use Rattle.oneorder.specs.OneOrder.{has_item};
 ghost use Rattle.orders.specs.Rows.{SetOf};
 ghost use Rattle.machine.specs.Shown.{name_of, names_of, place_of, shown_value, shown_entry, shown, Presets, Acts};
 ghost use Rattle.machine.specs.Given.{Accepted, Showing};
-ghost use Rattle.machine.specs.Lent.{Program, Lent};
+ghost use Rattle.machine.specs.Lent.{machine_of, Program, Lent};
 ghost use Rattle.issuing.specs.Issued.{assigned_by, place_by, after, Bound, Ordered, KeptBy};
 ghost use Rattle.issuing.specs.Given.{Joining, Keeping, Binding, Asking, Renaming, Renamed, Issuing};
 
@@ -241,6 +241,7 @@ pub fn issue(case: &Case, program: &[u64; 48], m: &mut Machine, p: usize)
     requires { Issuing program.now m.old.places m.old.names m.old.acts m.old.rows m.old.sets m.old.issued p }
     ensures kept { (m.new.holders ≡ m.old.holders) × (m.new.issued ≡ m.old.issued + 1) }
     ensures showing { (c : TheCase) → Program c program.now → Presets c case.now.masks case.now.presets → Accepted c m.old (issue_step p) → Showing c (issued_of c (shown c m.old) p) m.new }
+    ensures whoever_holds { (c : TheCase) (holders : List ℕ) → Program c program.now → Presets c case.now.masks case.now.presets → Accepted c (machine_of m.old.issued m.old.places m.old.names holders m.old.acts m.old.rows m.old.sets) (issue_step p) → Showing c (issued_of c (shown c (machine_of m.old.issued m.old.places m.old.names holders m.old.acts m.old.rows m.old.sets)) p) (machine_of (m.old.issued + 1) m.new.places m.new.names holders m.new.acts m.new.rows m.new.sets) }
 {
     let place = m.places[p];
     let i = machine::instr_at(program, 12 * p + place as usize);

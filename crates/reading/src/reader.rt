@@ -94,7 +94,8 @@ pub fn hear(text: &[u8]) -> TextRead
     match walk(text) {
         Err(line) => refused(line),
         Ok((line, s)) => {
-            if s.need > s.next {
+            let open = s.need > s.next;
+            if open {
                 refused(line)
             } else {
                 accepted(line, s)

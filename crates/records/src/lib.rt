@@ -84,7 +84,8 @@ fn there(out: &[u8], n: usize, r: &[u8], at: usize) -> bool
     requires { Standing out.now n r.now at }
     ensures { (result ≡ true) ↔ Among out.now n r.now }
 {
-    at < n && !below(r, record(out, at))
+    let inside = at < n;
+    inside && !below(r, record(out, at))
 }
 
 // Writes r over the first bytes.

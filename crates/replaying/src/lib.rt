@@ -53,7 +53,8 @@ impl From<Walked> for Replayed {
     }
 }
 
-// Takes the steps of a schedule until one is refused.
+// Takes the steps of a schedule until one is refused. Not inlined, so that a refused block does not pay for its machine.
+#[inline(never)]
 pub fn walk(case: &Case, schedule: &[u8]) -> Walked
     requires { Walking case.now schedule.now }
     ensures { IsWalk case.now (steps_of schedule.now) result }
@@ -160,7 +161,8 @@ pub fn refusal(code: u8, schedule: usize, size: usize, wanted: usize) -> u8
 }
 
 // Takes a schedule on the case that a block holds, for an answer into a buffer of this size; an `Err` is what is answered where the block, the schedule or
-// the size is refused.
+// the size is refused. Inlined, so that a refused block does not pay for a machine that is handed back.
+#[inline(always)]
 pub fn take_up(block: &[u8], schedule: &[u8], size: usize, wanted: usize) -> Result<Taken, Replayed>
     ensures taken { IfOk result (λ t. IsTaken block.now schedule.now size wanted t) }
     ensures refused { IfErr result (λ r. IsRefused block.now schedule.now size wanted r) }

@@ -44,7 +44,8 @@ fn counted(t: &mut Tally, block: &[u8])
     let read = cases::read_case(block);
     t.blocks = t.blocks.saturating_add(1);
     raise(&mut t.codes, usize::from(read.code));
-    if read.code == 0 {
+    let accepted = read.code == 0;
+    if accepted {
         raise_ops(&mut t.ops, block);
     }
 }

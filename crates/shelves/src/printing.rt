@@ -74,7 +74,8 @@ fn other_lines(text: &mut [u8], at: usize, over: usize, ops: &[u32]) -> usize
 pub fn report(text: &mut [u8], r: Reading) -> usize
     ensures { Laid text.old 0 (text_of r) text.new result }
 {
-    if 65535 < r.tally.blocks {
+    let many = 65535 < r.tally.blocks;
+    if many {
         number_line(text, 0, b"refused ", 16)
     } else {
         let behind_blocks = block_lines(text, r.tally.blocks as usize, &r.tally.codes);

@@ -10,8 +10,8 @@ use Rattle.asking.specs.Asked.{bad_clause}
 use Rattle.asking.proofs.Held.{any_more, any_at, any_all, bad_many, bad_some}
 use Rattle.asking.proofs.unaskable.Goals as goal
 
-pub returns-then-asked-gt8 : goal.returns-then-asked-gt8
-returns-then-asked-gt8 c = let a = c.args in let long : length a.asked.clauses ≡ 8 = search (long_of, rules) in bad_many a.procs a.asked long c.if-asked-gt8.true
+pub returns-then-many : goal.returns-then-many
+returns-then-many c = let a = c.args in let long : length a.asked.clauses ≡ 8 = search (long_of, rules) in bad_many a.procs a.asked long c.if-many.true
 
 pub loop-k-init : goal.loop-k-init
 loop-k-init c = refl
@@ -20,7 +20,7 @@ pub returns-then-unnamed : goal.returns-then-unnamed
 returns-then-unnamed c =
     let a = c.args in
     let long : length a.asked.clauses ≡ 8 = search (long_of, rules) in
-    bad_some a.procs a.asked true long c.if-asked-gt8.false (sym (any_at (bad_clause a.procs) (take a.asked.count a.asked.clauses) c.loop-k.k-index _ c.loop-k-test.true (sym c.if-unnamed.ensures)))
+    bad_some a.procs a.asked true long c.if-many.false (sym (any_at (bad_clause a.procs) (take a.asked.count a.asked.clauses) c.loop-k.k-index _ c.loop-k-test.true (sym c.if-unnamed.ensures)))
 
 pub loop-k-preserved : goal.loop-k-preserved
 loop-k-preserved c =
@@ -35,4 +35,4 @@ returns c =
     let a = c.args in
     let items = take a.asked.count a.asked.clauses in
     let long : length a.asked.clauses ≡ 8 = search (long_of, rules) in
-    bad_some a.procs a.asked false long c.if-asked-gt8.false (sym c.loop-k.invariant ∙ any_all (bad_clause a.procs) items c.loop-k.k-index c.loop-k-test.false)
+    bad_some a.procs a.asked false long c.if-many.false (sym c.loop-k.invariant ∙ any_all (bad_clause a.procs) items c.loop-k.k-index c.loop-k-test.false)

@@ -67,3 +67,8 @@ pub returns-clause-showing : goal.returns-clause-showing
 returns-clause-showing c =
     λ k coded starts ok.
     grown_is ok coded refl c.instr_at-i.ensures c.packed.result starts c.new_entry-e.ensures c.place_after.ensures c.packed.ensures c.rename.ensures c.join_order.ensures c.join_sets.ensures
+
+pub returns-clause-whoever_holds : goal.returns-clause-whoever_holds
+returns-clause-whoever_holds c =
+    λ k holders coded starts ok.
+    grown_is ok coded refl c.instr_at-i.ensures c.packed.result starts c.new_entry-e.ensures c.place_after.ensures c.packed.ensures c.rename.ensures c.join_order.ensures c.join_sets.ensures

@@ -9,12 +9,12 @@ use Rattle.records.specs.Buffer.{Among}
 use Rattle.records.proofs.Places.{past_all, stands_at_lem}
 use Rattle.records.proofs.there.Goals as goal
 
-pub returns-then-at-n : goal.returns-then-at-n
-returns-then-at-n c =
+pub returns-then-inside : goal.returns-then-inside
+returns-then-inside c =
     let r = c.args.r.now in
     let said = c.below.ensures ∙ ap (λ (x : List ℕ). below r x) c.record.ensures.is in
-    subst (λ (b : Bool). (not b ≡ true) ↔ Among c.args.out.now c.args.n r) (sym said) (stands_at_lem c.requires.held r c.requires.place c.if-at-n.true)
+    subst (λ (b : Bool). (not b ≡ true) ↔ Among c.args.out.now c.args.n r) (sym said) (stands_at_lem c.requires.held r c.requires.place c.if-inside.true)
 
-pub returns-else-at-n : goal.returns-else-at-n
-returns-else-at-n c =
-    subst (λ (b : Bool). (b ≡ true) ↔ Among c.args.out.now c.args.n c.args.r.now) (sym (le-ltb c.args.at c.args.n c.if-at-n.false)) (past_all c.requires.held c.args.r.now c.requires.place c.if-at-n.false)
+pub returns-else-inside : goal.returns-else-inside
+returns-else-inside c =
+    subst (λ (b : Bool). (b ≡ true) ↔ Among c.args.out.now c.args.n c.args.r.now) (sym (le-ltb c.args.at c.args.n c.if-inside.false)) (past_all c.requires.held c.args.r.now c.requires.place c.if-inside.false)

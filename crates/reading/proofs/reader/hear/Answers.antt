@@ -5,8 +5,8 @@ use Rattle.reading.proofs.reader.hear.Goals as goal
 pub returns-in-Err : goal.returns-in-Err
 returns-in-Err c = hear_not c.args.text.now c.in-Err.line c.refused.result c.in-Err.ensures c.refused.ensures
 
-pub returns-then-s : goal.returns-then-s
-returns-then-s c = hear_open c.args.text.now c.in-Ok.line c.in-Ok.s c.refused-then-s.result c.in-Ok.ensures c.if-s.true c.refused-then-s.ensures
+pub returns-then-open : goal.returns-then-open
+returns-then-open c = hear_open c.args.text.now c.in-Ok.line c.in-Ok.s c.refused-then-open.result c.in-Ok.ensures c.if-open.true c.refused-then-open.ensures
 
-pub returns-else-s : goal.returns-else-s
-returns-else-s c = hear_all c.args.text.now c.in-Ok.line c.in-Ok.s c.accepted.result c.in-Ok.ensures (omega arith) c.accepted.ensures
+pub returns-else-open : goal.returns-else-open
+returns-else-open c = hear_all c.args.text.now c.in-Ok.line c.in-Ok.s c.accepted.result c.in-Ok.ensures (omega arith) c.accepted.ensures

@@ -9,24 +9,24 @@ use Rattle.shelves.specs.Tallies.{raised, raised_all, counted}
 use Rattle.shelves.proofs.Adding.{none-raised}
 use Rattle.shelves.proofs.counts.counted.Goals as goal
 
-pub returns-then-read-eq0 : goal.returns-then-read-eq0
+pub returns-then-accepted : goal.returns-then-accepted
 unfolding counted
-returns-then-read-eq0 c =
+returns-then-accepted c =
     let t = c.args.t.now in
     let block = c.args.block.now in
     let code : c.read_case-read.result.code ≡ code_of block = read_code block c.read_case-read.ensures in
     let codes = c.raise.ensures ∙ ap (raised t.codes) (c.from.ensures ∙ code) in
-    let accepted = eq-eqb (code_of block) 0 (sym code ∙ c.if-read-eq0.true) in
+    let accepted = eq-eqb (code_of block) 0 (sym code ∙ c.if-accepted.true) in
     let ops = c.raise_ops.ensures ∙ ap (raised_all t.ops) (sym (cond-true (eqb (code_of block) 0) (ops_of block) [] accepted)) in
     λ j. record { blocks = c.saturating_add-t.ensures j; codes = codes j; ops = ops j }
 
-pub returns-else-read-eq0 : goal.returns-else-read-eq0
+pub returns-else-accepted : goal.returns-else-accepted
 unfolding counted
-returns-else-read-eq0 c =
+returns-else-accepted c =
     let t = c.args.t.now in
     let block = c.args.block.now in
     let code : c.read_case-read.result.code ≡ code_of block = read_code block c.read_case-read.ensures in
     let codes = c.raise.ensures ∙ ap (raised t.codes) (c.from.ensures ∙ code) in
-    let refused = ne_eqb (code_of block) 0 (λ q. c.if-read-eq0.false (code ∙ q)) in
+    let refused = ne_eqb (code_of block) 0 (λ q. c.if-accepted.false (code ∙ q)) in
     let ops = none-raised t.ops ∙ ap (raised_all t.ops) (sym (cond-false (eqb (code_of block) 0) (ops_of block) [] refused)) in
     λ j. record { blocks = c.saturating_add-t.ensures j; codes = codes j; ops = ops j }
