@@ -68,25 +68,24 @@ pub struct Fault {
     pub position: usize,
 }
 
-// Reads the case that a block holds. A refused block gives the refused case.
+// Reads the case that a block holds. A refused block gives the refused case; it returns by itself, as one of two arms it would be copied once more.
 pub fn read_case(block: &[u8]) -> CaseRead
     ensures { result ≡ read_of block.now }
 {
     let Fault { code, position } = reading::refusal(block);
-    if code == 0 {
-        CaseRead {
-            code: 0,
-            position: 0,
-            usual: reading::usual(block),
-            case: reading::case_of(block),
-        }
-    } else {
-        CaseRead {
+    if code != 0 {
+        return CaseRead {
             code,
             position,
             usual: false,
             case: reading::nothing(),
-        }
+        };
+    }
+    CaseRead {
+        code: 0,
+        position: 0,
+        usual: reading::usual(block),
+        case: reading::case_of(block),
     }
 }
 

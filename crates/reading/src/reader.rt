@@ -87,19 +87,17 @@ fn accepted(line: usize, s: Sheet) -> TextRead
     }
 }
 
-// What is heard of a text before 19 is asked.
+// What is heard of a text before 19 is asked. A refusal returns by itself, as one of two arms it would be copied once more.
 pub fn hear(text: &[u8]) -> TextRead
     ensures { Heard text.now result }
 {
-    match walk(text) {
-        Err(line) => refused(line),
-        Ok((line, s)) => {
-            let open = s.need > s.next;
-            if open {
-                refused(line)
-            } else {
-                accepted(line, s)
-            }
-        }
+    let (line, s) = match walk(text) {
+        Ok(walked) => walked,
+        Err(line) => return refused(line),
+    };
+    let open = s.need > s.next;
+    if open {
+        return refused(line);
     }
+    accepted(line, s)
 }

@@ -27,3 +27,6 @@ pub returns-in-9 : goal.returns-in-9
 returns-in-9 c =
     let no = c.in-9.in_default-own.rest in
     λ k. locks_row c.args.op k (omega (arith, no.0.1, no.1)) c.in-9.if-op-lt11-own.true
+
+pub returns-in_default : goal.returns-in_default
+returns-in_default c = λ k. row_of 0 c.args.op k (omega (arith, c.in_default.if-op-lt1-own.true)) (lit< tt)
