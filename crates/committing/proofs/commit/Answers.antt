@@ -90,16 +90,6 @@ bounds-m-k c =
     let there : a.k < 48 = omega (arith, c.requires.accepted.valid.issued) in
     there
 
-pub returns-clause-showing : goal.returns-clause-showing
-returns-clause-showing c =
-    let a = c.args in
-    λ d starts memory ok.
-    let n = a.m.now in
-    let s = shown d n in
-    let u : Acts d a.m.now.issued a.m.now.acts s = record { count = refl; actions = refl } in
-    settled_is d n a.p a.k a.src ok c.entry_at-e.result c.entry_at-e.ensures c.kind_of-kind.result c.or_zero-v.result c.input-x.result c.input-y.result c.place_by.result c.result_by-result.result c.packed.result c.lock.new.holders c.order_acquire.new.rows c.settle_sets.new.sets
-    c.kind_of-kind.ensures.0 (c.or_zero-v.ensures ∙ ap or_zero (c.item_value.ensures d s memory u)) (c.input-x.ensures d s starts u) (c.input-y.ensures d s starts u) c.order_acquire.ensures c.settle_sets.ensures c.place_by.ensures c.lock.ensures c.result_by-result.ensures c.packed.ensures
-
 pub returns-clause-whatever_named : goal.returns-clause-whatever_named
 returns-clause-whatever_named c =
     let a = c.args in
@@ -109,3 +99,7 @@ returns-clause-whatever_named c =
     let u : Acts d a.m.now.issued a.m.now.acts s = record { count = refl; actions = refl } in
     settled_is d n a.p a.k a.src ok c.entry_at-e.result c.entry_at-e.ensures c.kind_of-kind.result c.or_zero-v.result c.input-x.result c.input-y.result c.place_by.result c.result_by-result.result c.packed.result c.lock.new.holders c.order_acquire.new.rows c.settle_sets.new.sets
     c.kind_of-kind.ensures.0 (c.or_zero-v.ensures ∙ ap or_zero (c.item_value.ensures d s memory u)) (c.input-x.ensures d s starts u) (c.input-y.ensures d s starts u) c.order_acquire.ensures c.settle_sets.ensures c.place_by.ensures c.lock.ensures c.result_by-result.ensures c.packed.ensures
+
+-- the same of the machine's own names
+pub returns-clause-showing : goal.returns-clause-showing
+returns-clause-showing c = λ d starts memory ok. returns-clause-whatever_named c d c.args.m.now.names starts memory ok

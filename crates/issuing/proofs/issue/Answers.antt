@@ -63,12 +63,11 @@ place_after-requires c = issue_place c.requires.accepted
 pub bounds-m-p-2 : goal.bounds-m-p-2
 bounds-m-p-2 c = let ok = c.requires.accepted in omega (arith, issue_low ok, ok.valid.places_long)
 
-pub returns-clause-showing : goal.returns-clause-showing
-returns-clause-showing c =
-    λ k coded starts ok.
-    grown_is ok coded refl c.instr_at-i.ensures c.packed.result starts c.new_entry-e.ensures c.place_after.ensures c.packed.ensures c.rename.ensures c.join_order.ensures c.join_sets.ensures
-
 pub returns-clause-whoever_holds : goal.returns-clause-whoever_holds
 returns-clause-whoever_holds c =
     λ k holders coded starts ok.
     grown_is ok coded refl c.instr_at-i.ensures c.packed.result starts c.new_entry-e.ensures c.place_after.ensures c.packed.ensures c.rename.ensures c.join_order.ensures c.join_sets.ensures
+
+-- the same of the machine's own holders
+pub returns-clause-showing : goal.returns-clause-showing
+returns-clause-showing c = λ k coded starts ok. returns-clause-whoever_holds c k c.args.m.now.holders coded starts ok
